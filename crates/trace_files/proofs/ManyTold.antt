@@ -65,7 +65,7 @@ all_references references (Some first) (Some now) None told_so over = elim over 
 all_references references (Some first) (Some now) (Some later) told_so over =
     (told_so.0 ∙ ap (λ (trace : Trace). references ++ told trace) over.0 ∙ append-nil references, told_so.1 ∙ ap flaw_at_end over.0)
 
-stops_here : (fault : TraceFault) (first now : Trace) → flaw_at_end first ≡ flaw_at_end now → BreaksBy fault now → StopsBy fault first
+pub stops_here : (fault : TraceFault) (first now : Trace) → flaw_at_end first ≡ flaw_at_end now → BreaksBy fault now → StopsBy fault first
 stops_here NoMemory first now e breaks = tt
 stops_here (CannotRead name) first now e breaks = tt
 stops_here (Empty name) first now e breaks = elim breaks [ ]

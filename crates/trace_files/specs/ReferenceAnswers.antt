@@ -1,10 +1,12 @@
 -- What readers of a trace answer, where the bytes are known that the file still holds.
-use Rattle.std.specs.Prelude.{◌≡◌, ℕ, ⊤, ◌++◌, Bool, true, false, List, [], ◌∷◌, map, Option, Some, None, Result, Ok, Err, IfSome, if◌then◌else◌}
+use Rattle.std.specs.Prelude.{◌≡◌, ℕ, ⊤, ◌+◌, ◌++◌, Bool, true, false, List, [], ◌∷◌, length, filter, map, Option, Some, None, Result, Ok, Err, IfSome, if◌then◌else◌}
+use Rattle.std.specs.Io.Buffered.{reader_inner, reader_remaining}
 use Rattle.std.specs.Option.{option_map}
+use Rattle.std.specs.declared.io.buffered.BufReader.{BufReader}
 use Rattle.text_lines.specs.Text.{lines_of}
 use Rattle.clock_policy.specs.declared.key.Key.{Key}
 use Rattle.guest_strings.specs.declared.reference.Reference.{Reference}
-use Rattle.trace_files.specs.References.{Flaw, NoIds, BadLine, IsText, BadRecord, Trace, Ends, Breaks, told, flaw_at_end, accesses, before, pieces_of, rows, table, addresses_from, is_of_addresses, pages_from}
+use Rattle.trace_files.specs.References.{Flaw, NoIds, BadLine, IsText, BadRecord, Trace, Ends, Breaks, told, flaw_at_end, accesses, before, pieces_of, rows, table, addresses_from, is_of_addresses, pages_from, trace_of}
 use Rattle.trace_files.specs.declared.fault.TraceFault.{TraceFault}
 use Rattle.trace_files.specs.declared.fault.TraceFault.TheVariants.{NoMemory, CannotRead, Empty, NoColumn, Line, Text, Record}
 use Rattle.trace_files.specs.declared.format.TraceFormat.{TraceFormat}
@@ -29,6 +31,21 @@ IsOutside (NoColumn name) = ⊥
 IsOutside (Line number text) = ⊥
 IsOutside (Text name) = ⊥
 IsOutside (Record number size) = ⊥
+
+-- a fault that tells which trace it is of tells this name
+abbrev pub Names : List ℕ → TraceFault → Type 0
+Names name NoMemory = ⊤
+Names name (CannotRead named) = named.now ≡ name
+Names name (Empty named) = named.now ≡ name
+Names name (NoColumn named) = named.now ≡ name
+Names name (Line number text) = ⊤
+Names name (Text named) = named.now ≡ name
+Names name (Record number size) = ⊤
+
+-- the file of this name can't be read
+abbrev pub IsUnread : List ℕ → TraceFault → Type 0
+IsUnread name (CannotRead named) = named.now ≡ name
+IsUnread name _ = ⊥
 
 -- ---- references
 
@@ -90,6 +107,17 @@ abbrev pub to_come : {B : Type 0} → (B → Option (List ℕ)) → TraceFile B 
 to_come remaining trace = if is_of_addresses trace.format then addresses_left remaining trace.format trace.held trace.second trace.pieces
     else pages_left remaining trace.format trace.column trace.pieces
 
+-- all that the reader below a trace holds is still to come
+abbrev pub IsAtFront : {F A : Type 0} → (F → Option (List ℕ)) → TraceFormat → TraceFile (BufReader F A) → Type 0
+IsAtFront remaining format trace = to_come (reader_remaining remaining) trace ≡ option_map (trace_of format) (remaining (reader_inner trace.pieces.file))
+
+-- A file that was opened is the one that is read, unless memory is wanted; of one that was not is told that it can't be read.
+abbrev pub Opens : {F E A : Type 0} → List ℕ → Result F E → Result (TraceFile (BufReader F A)) TraceFault → Type 0
+Opens name (Ok file) (Ok trace) = reader_inner trace.pieces.file ≡ file
+Opens name (Ok file) (Err fault) = fault ≡ NoMemory
+Opens name (Err error) (Ok trace) = ⊥
+Opens name (Err error) (Err fault) = IsUnread name fault
+
 -- ---- many references
 
 abbrev pub page_of : Reference → Key
@@ -126,3 +154,15 @@ IsWhole references trace = (told trace ≡ references) × (flaw_at_end trace ≡
 
 abbrev pub ArePages : List Key → Trace → Type 0
 ArePages pages trace = (map page_of (told trace) ≡ pages) × (flaw_at_end trace ≡ None)
+
+-- of the pages that were told those were kept that pass a test, so many references were told in all, and others are still to come
+abbrev pub TellsSample : (Key → Bool) → List Key → ℕ → Option Trace → Option Trace → Type 0
+TellsSample keeps sample number None rest = ⊤
+TellsSample keeps sample number (Some trace) None = ⊥
+TellsSample keeps sample number (Some trace) (Some rest) =
+    (filter keeps (map page_of (told trace)) ≡ sample ++ filter keeps (map page_of (told rest)))
+    × ((length (told trace) ≡ number + length (told rest)) × (flaw_at_end trace ≡ flaw_at_end rest))
+
+-- the pages of a whole trace without a flaw that pass a test, and how many references it has
+abbrev pub IsSample : (Key → Bool) → List Key → ℕ → Trace → Type 0
+IsSample keeps sample number trace = (filter keeps (map page_of (told trace)) ≡ sample) × ((length (told trace) ≡ number) × (flaw_at_end trace ≡ None))

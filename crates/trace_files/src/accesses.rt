@@ -1,6 +1,6 @@
 //! Traces of addresses: the references of their accesses.
 
-ghost use Rattle.std.specs.Prelude.{◌≡◌};
+ghost use Rattle.std.specs.Prelude.{◌≡◌, IfErr};
 ghost use Rattle.trace_files.specs.References.{
   Gives,
   Trace,
@@ -13,6 +13,7 @@ ghost use Rattle.trace_files.specs.References.{
   second_of,
 };
 ghost use Rattle.trace_files.specs.ReferenceAnswers.{
+  Names,
   Tells,
   accesses_left,
   addresses_left,
@@ -34,8 +35,10 @@ pub(crate) fn next_joined<'a, B: BufRead + Drop>(
     due: &mut Option<Reference>,
     format: TraceFormat,
 ) -> Result<Option<Reference>, TraceFault<'a>>
-    ensures { Tells Gives result (addresses_left B.remaining format held.old due.old pieces.old)
-        (addresses_left B.remaining format held.new due.new pieces.new) }
+    ensures told { Tells Gives result (addresses_left B.remaining format held.old due.old
+        pieces.old) (addresses_left B.remaining format held.new due.new pieces.new) }
+    ensures named { IfErr result (Names pieces.old.name.now) }
+    ensures kept { pieces.new.name ≡ pieces.old.name }
 {
     'references: for _ in 0..u64::MAX {
         let Some(next) = next_due(pieces, due, format)? else {
@@ -78,8 +81,10 @@ fn next_due<'a, B: BufRead + Drop>(
     due: &mut Option<Reference>,
     format: TraceFormat,
 ) -> Result<Option<Reference>, TraceFault<'a>>
-    ensures { Tells Gives result (due_left B.remaining format due.old pieces.old) (due_left
+    ensures told { Tells Gives result (due_left B.remaining format due.old pieces.old) (due_left
         B.remaining format due.new pieces.new) }
+    ensures named { IfErr result (Names pieces.old.name.now) }
+    ensures kept { pieces.new.name ≡ pieces.old.name }
 {
     if let Some(second) = due.take() {
         return Ok(Some(second));
@@ -94,8 +99,10 @@ fn next_due<'a, B: BufRead + Drop>(
 impl<'a, B: BufRead + Drop> Pieces<'a, B> {
     /// The next access, behind lines that tell of none.
     fn next_access(&mut self, format: TraceFormat) -> Result<Option<Access>, TraceFault<'a>>
-        ensures { Tells accessed result (accesses_left B.remaining format self.old) (accesses_left
-            B.remaining format self.new) }
+        ensures told { Tells accessed result (accesses_left B.remaining format self.old)
+            (accesses_left B.remaining format self.new) }
+        ensures named { IfErr result (Names self.old.name.now) }
+        ensures kept { self.new.name ≡ self.old.name }
     {
         'lines: for _ in 0..u64::MAX {
             match self.next_line(format)? {
@@ -110,8 +117,10 @@ impl<'a, B: BufRead + Drop> Pieces<'a, B> {
 
     /// What the next line says.
     fn next_line(&mut self, format: TraceFormat) -> Result<Option<AddressLine>, TraceFault<'a>>
-        ensures { Tells line_given result (accesses_left B.remaining format self.old) (accesses_left
-            B.remaining format self.new) }
+        ensures told { Tells line_given result (accesses_left B.remaining format self.old)
+            (accesses_left B.remaining format self.new) }
+        ensures named { IfErr result (Names self.old.name.now) }
+        ensures kept { self.new.name ≡ self.old.name }
     {
         if !self.read_line()? {
             return Ok(None);

@@ -3,7 +3,7 @@
 ghost use Rattle.std.specs.Prelude.{◌≡◌, Ok, IfErr, IfOk, OnOk};
 ghost use Rattle.text_lines.specs.Text.{lines_of};
 ghost use Rattle.trace_files.specs.References.{counted, pieces_of, records_of};
-ghost use Rattle.trace_files.specs.ReferenceAnswers.{IsOutside, TakesPiece};
+ghost use Rattle.trace_files.specs.ReferenceAnswers.{IsOutside, Names, TakesPiece};
 
 use crate::fault::TraceFault;
 use crate::format::TraceFormat;
@@ -27,6 +27,7 @@ pub(crate) struct Pieces<'a, B: BufRead> {
 impl<'a, B: BufRead + Drop> Pieces<'a, B> {
     pub(crate) fn new(alloc: Global, name: &'a str, file: B) -> Self
         ensures file { result.file ≡ file }
+        ensures named { result.name.now ≡ name.now }
         ensures count { result.count ≡ 0 }
     {
         Pieces {
@@ -44,6 +45,8 @@ impl<'a, B: BufRead + Drop> Pieces<'a, B> {
             self.new.last.items (B.remaining self.old.file) (B.remaining self.new.file)) }
         ensures counted { OnOk result (self.new.count ≡ counted self.old.count) }
         ensures fault { IfErr result IsOutside }
+        ensures named { IfErr result (Names self.old.name.now) }
+        ensures kept { self.new.name ≡ self.old.name }
     {
         match format {
             TraceFormat::OracleGeneral => self.read_record(),
@@ -57,6 +60,8 @@ impl<'a, B: BufRead + Drop> Pieces<'a, B> {
             self.new.last.items (B.remaining self.old.file) (B.remaining self.new.file)) }
         ensures counted { OnOk result (self.new.count ≡ counted self.old.count) }
         ensures fault { IfErr result IsOutside }
+        ensures named { IfErr result (Names self.old.name.now) }
+        ensures kept { self.new.name ≡ self.old.name }
     {
         let read = read_line(&mut self.file, &mut self.last);
         one_more(read, &mut self.count, self.name)
@@ -68,6 +73,8 @@ impl<'a, B: BufRead + Drop> Pieces<'a, B> {
             self.new.last.items (B.remaining self.old.file) (B.remaining self.new.file)) }
         ensures counted { OnOk result (self.new.count ≡ counted self.old.count) }
         ensures fault { IfErr result IsOutside }
+        ensures named { IfErr result (Names self.old.name.now) }
+        ensures kept { self.new.name ≡ self.old.name }
     {
         let read = read_record(&mut self.file, &mut self.last);
         one_more(read, &mut self.count, self.name)
@@ -83,6 +90,7 @@ fn one_more<'a>(
     ensures same { IfOk result (λ is_there. read ≡ Ok is_there) }
     ensures counted { OnOk result (count.new ≡ counted count.old) }
     ensures fault { IfErr result IsOutside }
+    ensures named { IfErr result (Names name.now) }
 {
     match read {
         Ok(is_there) => {
@@ -95,7 +103,8 @@ fn one_more<'a>(
 
 /// What an error of a file's reader is.
 fn fault_of<'a>(error: &io::Error, name: &'a str) -> TraceFault<'a>
-    ensures { IsOutside result }
+    ensures outside { IsOutside result }
+    ensures named { Names name.now result }
 {
     match error.kind() {
         ErrorKind::OutOfMemory => TraceFault::NoMemory,

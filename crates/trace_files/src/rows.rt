@@ -18,6 +18,7 @@ ghost use Rattle.trace_files.specs.References.{
 };
 ghost use Rattle.trace_files.specs.ReferenceAnswers.{
   BreaksBy,
+  Names,
   Passes,
   Tells,
   rows_left,
@@ -46,6 +47,8 @@ impl<'a, B: BufRead + Drop> Pieces<'a, B> {
         ensures told { Tells Gives result (rows_left B.remaining format column self.old)
             (rows_left B.remaining format column self.new) }
         ensures counted { OnOk result (self.new.count ≡ counted self.old.count) }
+        ensures named { IfErr result (Names self.old.name.now) }
+        ensures kept { self.new.name ≡ self.old.name }
     {
         if !self.read(format)? {
             return Ok(None);
@@ -64,6 +67,8 @@ impl<'a, B: BufRead + Drop> Pieces<'a, B> {
         ensures fault { IfErr result (λ fault. IfSome (table_left B.remaining self.old) (BreaksBy
             fault)) }
         ensures counted { OnOk result (self.new.count ≡ counted self.old.count) }
+        ensures named { IfErr result (Names self.old.name.now) }
+        ensures kept { self.new.name ≡ self.old.name }
     {
         if !self.read_line()? {
             return Ok(0);
@@ -76,7 +81,9 @@ impl<'a, B: BufRead + Drop> Pieces<'a, B> {
 
     /// What is told of a line or record that is no reference.
     fn bad_row(&self, format: TraceFormat) -> TraceFault<'a>
-        ensures { BreaksBy result (Breaks (row_flaw format self.now.count self.now.last.items)) }
+        ensures breaks { BreaksBy result (Breaks (row_flaw format self.now.count
+            self.now.last.items)) }
+        ensures named { Names self.now.name.now result }
     {
         match format {
             TraceFormat::OracleGeneral => self.bad_record(),
@@ -87,7 +94,9 @@ impl<'a, B: BufRead + Drop> Pieces<'a, B> {
     /// Its number, and how many bytes it has.
     #[tactic(auto, unfolding(crate::specs::References::record_flaw))]
     fn bad_record(&self) -> TraceFault<'a>
-        ensures { BreaksBy result (Breaks (record_flaw self.now.count self.now.last.items)) }
+        ensures breaks { BreaksBy result (Breaks (record_flaw self.now.count
+            self.now.last.items)) }
+        ensures named { Names self.now.name.now result }
     {
         if shows_text(self.count, self.last.as_slice()) {
             return TraceFault::Text(self.name);
@@ -97,7 +106,8 @@ impl<'a, B: BufRead + Drop> Pieces<'a, B> {
 
     /// Its number, and its first characters.
     pub(crate) fn bad_line(&self) -> TraceFault<'a>
-        ensures { BreaksBy result (Breaks (BadLine self.now.count)) }
+        ensures breaks { BreaksBy result (Breaks (BadLine self.now.count)) }
+        ensures named { Names self.now.name.now result }
     {
         match shown(self.alloc, self.last.as_slice()) {
             Ok(text) => TraceFault::Line(self.count, text),

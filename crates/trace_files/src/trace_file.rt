@@ -1,6 +1,17 @@
 //! Traces in files, read as they come.
 
-ghost use Rattle.std.specs.Prelude.{◌≡◌, ◌≤◌, ◌<◌, IfErr, IfOk, IfSome, OnOk, Some, length};
+ghost use Rattle.std.specs.Prelude.{
+  ◌≡◌,
+  ◌≤◌,
+  ◌<◌,
+  ◌⊎◌,
+  IfErr,
+  IfOk,
+  IfSome,
+  OnOk,
+  Some,
+  length,
+};
 ghost use Rattle.std.specs.Option.{option_map};
 ghost use Rattle.trace_files.specs.References.{
   Ends,
@@ -11,6 +22,10 @@ ghost use Rattle.trace_files.specs.References.{
 };
 ghost use Rattle.trace_files.specs.ReferenceAnswers.{
   EndsBy,
+  IsAtFront,
+  IsUnread,
+  Names,
+  Opens,
   Tells,
   TellsPages,
   pages_left,
@@ -24,9 +39,9 @@ use crate::pieces::Pieces;
 use clock_policy::Key;
 use guest_strings::Reference;
 use std::alloc::Global;
-use std::fs;
-use std::io::{BufRead, BufReader};
+use std::io::{BufRead, BufReader, Read};
 use std::rt::Files;
+use std::{fs, io};
 
 /// How many bytes of a trace are read at a time.
 const BYTES: usize = 1 << 16;
@@ -50,7 +65,10 @@ pub struct TraceFile<'a, B: BufRead> {
 
 impl<'a, B: BufRead + Drop> TraceFile<'a, B> {
     fn new(alloc: Global, name: &'a str, format: TraceFormat, file: B) -> Self
-        ensures { to_come B.remaining result ≡ option_map (trace_of format) (B.remaining file) }
+        ensures told { to_come B.remaining result ≡ option_map (trace_of format)
+            (B.remaining file) }
+        ensures file { result.pieces.file ≡ file }
+        ensures named { result.pieces.name.now ≡ name.now }
     {
         TraceFile {
             format,
@@ -71,6 +89,8 @@ impl<'a, B: BufRead + Drop> TraceFile<'a, B> {
             self.old) (λ _. to_come B.remaining self.new ≡ Some Ends)) }
         ensures fault { IfErr result (λ fault. IfSome (to_come B.remaining self.old) (EndsBy
             fault)) }
+        ensures named { IfErr result (Names self.old.pieces.name.now) }
+        ensures kept { self.new.pieces.name ≡ self.old.pieces.name }
     {
         block.clear();
         'references: for _ in 0..most {
@@ -86,7 +106,10 @@ impl<'a, B: BufRead + Drop> TraceFile<'a, B> {
 
     /// The next reference, or `None` at the end. Those of `csv` and `oraclegeneral` never say that they write.
     pub fn next(&mut self) -> Result<Option<Reference>, TraceFault<'a>>
-        ensures { Tells Gives result (to_come B.remaining self.old) (to_come B.remaining self.new) }
+        ensures told { Tells Gives result (to_come B.remaining self.old)
+            (to_come B.remaining self.new) }
+        ensures named { IfErr result (Names self.old.pieces.name.now) }
+        ensures kept { self.new.pieces.name ≡ self.old.pieces.name }
     {
         if is_of_addresses(self.format) {
             return next_joined(
@@ -100,17 +123,37 @@ impl<'a, B: BufRead + Drop> TraceFile<'a, B> {
     }
 }
 
-/// Opens a trace. What a file holds no contract can name.
+/// Opens a trace. Which files there are and what they hold no contract can name: all that the reader of this one holds is still to come.
 pub fn open_trace<'a, R: Files + AllocGlobal>(
     rt: &R,
     name: &'a str,
     format: TraceFormat,
-) -> Result<TraceFile<'a, BufReader<R::File>>, TraceFault<'a>> {
-    let Ok(file) = fs::open(rt, name) else {
+) -> Result<TraceFile<'a, BufReader<R::File>>, TraceFault<'a>>
+    ensures told { IfOk result (IsAtFront R.File.remaining format) }
+    ensures named { IfOk result (λ trace. trace.pieces.name.now ≡ name.now) }
+    ensures fault { IfErr result (λ fault. (fault ≡ TraceFault.NoMemory) ⊎ IsUnread name.now
+        fault) }
+{
+    trace_over(rt.alloc(), name, format, fs::open(rt, name))
+}
+
+/// The trace in what was opened, from its front.
+#[tactic(auto, using(crate::proofs::Opened::at_front))]
+fn trace_over<'a, F: Read + Drop>(
+    alloc: Global,
+    name: &'a str,
+    format: TraceFormat,
+    opened: io::Result<F>,
+) -> Result<TraceFile<'a, BufReader<F>>, TraceFault<'a>>
+    ensures told { IfOk result (IsAtFront F.remaining format) }
+    ensures named { IfOk result (λ trace. trace.pieces.name.now ≡ name.now) }
+    ensures answered { Opens name.now opened result }
+{
+    let Ok(file) = opened else {
         return Err(TraceFault::CannotRead(name));
     };
-    match BufReader::with_capacity(rt.alloc(), BYTES, file) {
-        Ok(file) => Ok(TraceFile::new(rt.alloc(), name, format, file)),
+    match BufReader::with_capacity(alloc, BYTES, file) {
+        Ok(file) => Ok(TraceFile::new(alloc, name, format, file)),
         Err(_) => Err(TraceFault::NoMemory),
     }
 }
@@ -121,8 +164,10 @@ fn next_page<'a, B: BufRead + Drop>(
     column: &mut usize,
     format: TraceFormat,
 ) -> Result<Option<Reference>, TraceFault<'a>>
-    ensures { Tells Gives result (pages_left B.remaining format column.old pieces.old) (pages_left
-        B.remaining format column.new pieces.new) }
+    ensures told { Tells Gives result (pages_left B.remaining format column.old pieces.old)
+        (pages_left B.remaining format column.new pieces.new) }
+    ensures named { IfErr result (Names pieces.old.name.now) }
+    ensures kept { pieces.new.name ≡ pieces.old.name }
 {
     if !is_at_names(format, pieces.count) {
         return pieces.next_row(format, *column);

@@ -2,25 +2,25 @@
 
 ghost use Rattle.std.specs.Prelude.{
   ◌≡◌,
-  ◌≤◌,
   ◌<◌,
-  ◌-◌,
-  ◌^◌,
+  ◌++◌,
+  [],
+  ◌∷◌,
   true,
   length,
   filter,
-  map,
-  min,
   IfErr,
   IfOk,
   IfSome,
+  OnOk,
 };
 ghost use Rattle.std.specs.List.{All};
 ghost use Rattle.whole_strings.specs.Sampling.{is_sampled};
-ghost use Rattle.trace_files.specs.References.{told};
 ghost use Rattle.trace_files.specs.ReferenceAnswers.{
   ArePages,
+  IsSample,
   IsWhole,
+  Names,
   StopsBy,
   to_come,
 };
@@ -30,7 +30,7 @@ use crate::trace_file::{BLOCK, TraceFile};
 use clock_policy::Key;
 use guest_strings::Reference;
 use miss_counts::{Stage, StageListener};
-use std::alloc::Global;
+use std::alloc::{AllocError, Global};
 use std::io::BufRead;
 use std::num::NonZeroU32;
 use whole_strings::is_sampled;
@@ -47,6 +47,7 @@ pub fn read_whole<'a, B: BufRead + Drop, P: StageListener>(
         string.items)) }
     ensures fault { IfErr result (λ fault. IfSome (to_come B.remaining trace.old) (StopsBy
         fault)) }
+    ensures named { IfErr result (Names trace.old.pieces.name.now) }
 {
     let mut string = Vec::new(alloc);
     let mut block = Vec::new(alloc);
@@ -79,6 +80,7 @@ pub fn read_references<'a, B: BufRead + Drop, P: StageListener>(
         string.items)) }
     ensures fault { IfErr result (λ fault. IfSome (to_come B.remaining trace.old) (StopsBy
         fault)) }
+    ensures named { IfErr result (Names trace.old.pieces.name.now) }
 {
     let mut string = Vec::new(alloc);
     'references: for _ in 0..u64::MAX {
@@ -96,7 +98,9 @@ pub fn read_references<'a, B: BufRead + Drop, P: StageListener>(
     // nothing says that a reader ends: std gives up after as many turns
     Err(TraceFault::CannotRead(trace.pieces.name))
 }
+
 /// The pages of a trace that are in a sample of one in so many, and how many references the whole trace has. One with none is a fault.
+#[tactic(auto, using(crate::proofs::SampleTold::nothing_sampled, crate::proofs::SampleTold::sample_on, crate::proofs::SampleTold::all_sampled, crate::proofs::SampleTold::empty_sample, crate::proofs::SampleTold::sample_stops, crate::proofs::SampleTold::sample_passes))]
 pub fn read_sample<'a, B: BufRead + Drop, P: StageListener>(
     alloc: Global,
     trace: &mut TraceFile<'a, B>,
@@ -106,21 +110,36 @@ pub fn read_sample<'a, B: BufRead + Drop, P: StageListener>(
     ensures some { IfOk result (λ read. 0 < read.1) }
     ensures sampled { IfOk result (λ read. All (λ page. is_sampled one_in.value page ≡ true)
         read.0.items) }
+    ensures whole { IfOk result (λ read. IfSome (to_come B.remaining trace.old) (IsSample
+        (is_sampled one_in.value) read.0.items read.1)) }
+    ensures fault { IfErr result (λ fault. IfSome (to_come B.remaining trace.old) (StopsBy
+        fault)) }
+    ensures named { IfErr result (Names trace.old.pieces.name.now) }
 {
     let mut sample = Vec::new(alloc);
-    let mut references = 0u64;
-    for _ in 0..u64::MAX {
+    'references: for references in 0..u64::MAX {
         let Some(reference) = trace.next()? else {
-            break;
+            if references == 0 {
+                return Err(TraceFault::Empty(trace.pieces.name));
+            }
+            return Ok((sample, references));
         };
-        references = references.saturating_add(1);
-        progress.tell(Stage::References(references));
-        if is_sampled(reference.page, one_in) && sample.push(reference.page).is_err() {
+        if keep_sampled(&mut sample, reference.page, one_in).is_err() {
             return Err(TraceFault::NoMemory);
         }
+        progress.tell(Stage::References(references + 1));
     }
-    if references == 0 {
-        return Err(TraceFault::Empty(trace.pieces.name));
+    // nothing says that a reader ends: std gives up after as many turns
+    Err(TraceFault::CannotRead(trace.pieces.name))
+}
+
+/// The page is one of the sample, where the sample has it.
+fn keep_sampled(sample: &mut Vec<Key>, page: Key, one_in: NonZeroU32) -> Result<(), AllocError>
+    ensures { OnOk result (sample.new.items ≡ sample.old.items ++ filter
+        (is_sampled one_in.value) (page ∷ [])) }
+{
+    if is_sampled(page, one_in) {
+        sample.push(page)?;
     }
-    Ok((sample, references))
+    Ok(())
 }

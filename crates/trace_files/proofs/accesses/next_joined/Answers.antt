@@ -9,24 +9,24 @@ use Rattle.trace_files.specs.References.{Gives, accesses, before, joined}
 use Rattle.trace_files.specs.ReferenceAnswers.{IsOver, Tells, addresses_left}
 use Rattle.trace_files.proofs.accesses.next_joined.Goals as goal
 
-pub returns-in_err-next : goal.returns-in_err-next
-returns-in_err-next g c =
+pub returns-in_err-next-clause-told : goal.returns-in_err-next-clause-told
+returns-in_err-next-clause-told g c =
     let p = err_from_is_err_and c.from_residual.result c.from_residual.ensures.1 in
     let fault = c.in_err-next.field-0.0 in
     rw (p.1, p.2) (breaks_later fault (addresses_left g.B.Read.remaining c.args.format c.args.held.now c.args.due.now c.args.pieces.now)
-    (addresses_left g.B.Read.remaining c.args.format c.references.held c.references.due c.references.pieces) c.references.invariant
-    (held_breaks (λ bytes. before c.references.due (accesses c.args.format c.references.pieces.count (lines_of bytes))) c.references.held fault (g.B.Read.remaining c.references.pieces.file) c.in_err-next.ensures))
+    (addresses_left g.B.Read.remaining c.args.format c.references.held c.references.due c.references.pieces) c.references.invariant.held
+    (held_breaks (λ bytes. before c.references.due (accesses c.args.format c.references.pieces.count (lines_of bytes))) c.references.held fault (g.B.Read.remaining c.references.pieces.file) c.in_err-next.ensures.told))
 
-pub returns-in_default : goal.returns-in_default
-returns-in_default g c =
+pub returns-in_default-clause-told : goal.returns-in_default-clause-told
+returns-in_default-clause-told g c =
     let f = λ (bytes : List ℕ). before c.references.due (accesses c.args.format c.references.pieces.count (lines_of bytes)) in
     let h = λ (bytes : List ℕ). before c.next_due.new.due (accesses c.args.format c.next_due.new.pieces.count (lines_of bytes)) in
     let known = g.B.Read.remaining c.references.pieces.file in
     let rest = g.B.Read.remaining c.next_due.new.pieces.file in
     let none : c.in_ok-next.field-0 ≡ None = first_of (cc, search rules, grind arith) in
-    let over : IsOver (option_map f known) (option_map h rest) = over_at_none c.in_ok-next.field-0 (option_map f known) (option_map h rest) none c.in_ok-next.ensures in
+    let over : IsOver (option_map f known) (option_map h rest) = over_at_none c.in_ok-next.field-0 (option_map f known) (option_map h rest) none c.in_ok-next.ensures.told in
     told_later Gives (Ok c.take.result) (addresses_left g.B.Read.remaining c.args.format c.args.held.now c.args.due.now c.args.pieces.now)
     (addresses_left g.B.Read.remaining c.args.format c.references.held c.references.due c.references.pieces)
-    (addresses_left g.B.Read.remaining c.args.format c.take.new.self c.next_due.new.due c.next_due.new.pieces) c.references.invariant
+    (addresses_left g.B.Read.remaining c.args.format c.take.new.self c.next_due.new.due c.next_due.new.pieces) c.references.invariant.held
     (subst (λ (o : Option Reference). Tells Gives (Ok o) (option_map (λ bytes. joined c.references.held (f bytes)) known) (option_map (λ bytes. joined c.take.new.self (h bytes)) rest)) (sym c.take.ensures.value)
     (last_told f h c.references.held c.take.new.self known rest c.take.ensures.after over))

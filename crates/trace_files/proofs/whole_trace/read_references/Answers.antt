@@ -12,7 +12,7 @@ returns-then-is_empty-clause-fault g c =
     let later = to_come g.B.Read.remaining c.next.new.self in
     let none : c.in_ok-reference.field-0 ≡ None = first_of (cc, search rules, grind arith) in
     let empty : length c.references.string.items ≡ 0 = grind (arith, common_steps, c.references.string.ok.0) in
-    empty_references c.references.string.items first now later c.references.invariant (over_at_none c.in_ok-reference.field-0 now later none c.in_ok-reference.ensures) (empty_string c.references.string.items empty)
+    empty_references c.references.string.items first now later c.references.invariant.told (over_at_none c.in_ok-reference.field-0 now later none c.in_ok-reference.ensures.told) (empty_string c.references.string.items empty)
 
 pub returns-in_default-clause-whole : goal.returns-in_default-clause-whole
 returns-in_default-clause-whole g c =
@@ -20,4 +20,4 @@ returns-in_default-clause-whole g c =
     let now = to_come g.B.Read.remaining c.references.trace in
     let later = to_come g.B.Read.remaining c.next.new.self in
     let none : c.in_ok-reference.field-0 ≡ None = first_of (cc, search rules, grind arith) in
-    all_references c.references.string.items first now later c.references.invariant (over_at_none c.in_ok-reference.field-0 now later none c.in_ok-reference.ensures)
+    all_references c.references.string.items first now later c.references.invariant.told (over_at_none c.in_ok-reference.field-0 now later none c.in_ok-reference.ensures.told)

@@ -31,4 +31,4 @@ returns-in-None-clause-told g c =
     let there : c.in_ok-read.field-0 ≡ true = grind arith in
     row_breaks c.args.format c.args.column c.args.self.now.count c.read.new.self.count c.in_ok-read.ensures.counted piece known rest c.bad_row.result
     (subst (λ (b : Bool). TakesPiece (pieces_of c.args.format) b piece known rest) there c.in_ok-read.ensures.taken)
-    (ap (row_reference c.args.format c.args.column c.read.new.self.count) (sym c.as_slice.ensures.value) ∙ sym c.in-None.ensures) c.bad_row.ensures
+    (ap (row_reference c.args.format c.args.column c.read.new.self.count) (sym c.as_slice.ensures.value) ∙ sym c.in-None.ensures) c.bad_row.ensures.breaks

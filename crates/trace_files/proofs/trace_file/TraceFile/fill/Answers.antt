@@ -10,4 +10,4 @@ returns-in_default-clause-full g c = λ _.
     let now = to_come g.B.Read.remaining c.references.self in
     let later = to_come g.B.Read.remaining c.next.new.self in
     let none : c.in_ok-reference.field-0 ≡ None = first_of (cc, search rules, grind arith) in
-    none_later c.references.block.items first now later c.references.invariant.told (over_at_none c.in_ok-reference.field-0 now later none c.in_ok-reference.ensures)
+    none_later c.references.block.items first now later c.references.invariant.told (over_at_none c.in_ok-reference.field-0 now later none c.in_ok-reference.ensures.told)

@@ -6,5 +6,6 @@ use Rattle.trace_files.proofs.trace_file.TraceFile.fill.Given as goal
 abbrev pub invariant-references : goal.invariant-references
 invariant-references g l = record {
   few : length l.block.items ≡ l.counter;
+  kept : l.self.pieces.name ≡ l.initial.self.pieces.name;
   told : TellsPages l.block.items (to_come g.B.Read.remaining l.initial.self) (to_come g.B.Read.remaining l.self);
 }

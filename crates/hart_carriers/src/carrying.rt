@@ -167,10 +167,6 @@ fn carry_hart<L: Ledger, S: SwapSlot, C: Clock, G: Gate, R: Wait>(
         }
         let part = run_part(rt, shared.locks(), process, hart, seat, gate);
         has_run = has_run || part.ran;
-        if part.ran && seat.served {
-            seat.served = false;
-            shared.locks().count_run(shift.worker);
-        }
         if part.is_last {
             return has_run;
         }

@@ -53,7 +53,6 @@ pub(crate) fn bring_in<L: Ledger, S: SwapSlot, C: Clock, G: Gate, R: Wait>(
         match try_page(rt, shared, gate, Key { process, vpn }) {
             Try::Done => {
                 if seat.hungry {
-                    seat.served = true;
                     locks.count_page(worker);
                 }
                 seat.lack = None;

@@ -22,8 +22,6 @@ pub(crate) struct Seat {
     pub lack: Option<Lack>,
     /// Whether it waits for a frame.
     pub hungry: bool,
-    /// Whether a page came in for which it had waited so, and no instruction has run since.
-    pub served: bool,
 }
 
 impl Seat {
@@ -46,7 +44,6 @@ pub(crate) const EMPTY: Seat = Seat {
     left: 0,
     lack: None,
     hungry: false,
-    served: false,
 };
 
 /// A seat for each hart that a machine may have.

@@ -2,7 +2,7 @@
 
 use crate::bell::Bell;
 use crate::harts::{Harts, PageWait};
-use crate::offers::{Offers, Progress};
+use crate::offers::Offers;
 use machine_limits::MOST_HARTS;
 use std::alloc::{AllocError, Global};
 use std::sync::atomic::{AtomicU64, Ordering};
@@ -27,12 +27,12 @@ impl Signs {
     }
 }
 
-/// A worker's bell, whether a hart that it carries waits for a frame, and how far they have come. The worker alone writes the two counts.
+/// A worker's bell, whether a hart that it carries waits for a frame, and how many pages came in for those that had. The worker alone writes this
+/// count.
 #[derive(Drop)]
 struct Station {
     bell: Bell,
     hungry: AtomicU64,
-    runs: AtomicU64,
     pages: AtomicU64,
 }
 
@@ -41,7 +41,6 @@ impl Station {
         Station {
             bell: Bell::new(),
             hungry: AtomicU64::new(0),
-            runs: AtomicU64::new(0),
             pages: AtomicU64::new(0),
         }
     }
@@ -50,20 +49,9 @@ impl Station {
         self.hungry.load(Ordering::SeqCst) != 0
     }
 
-    fn progress(&self) -> Progress {
-        Progress {
-            runs: self.runs.load(Ordering::SeqCst),
-            pages: self.pages.load(Ordering::SeqCst),
-        }
+    fn pages(&self) -> u64 {
+        self.pages.load(Ordering::SeqCst)
     }
-}
-
-/// Raises a count that no other thread writes.
-fn raise(count: &AtomicU64) {
-    count.store(
-        count.load(Ordering::SeqCst).wrapping_add(1),
-        Ordering::SeqCst,
-    );
 }
 
 /// What the threads of a machine tell one another. Hart `h` of process `p` falls to worker `(p + h) % workers`.
@@ -302,22 +290,17 @@ impl Signals {
         false
     }
 
-    /// Instructions of a hart that a worker carries have run, for which a page had come in.
-    pub fn count_run(&self, worker: u32) {
-        if let Some(station) = self.workers.get(worker as usize) {
-            raise(&station.runs);
-        }
-    }
-
     /// A page has come in for a hart that a worker carries, which had waited for a frame.
     pub fn count_page(&self, worker: u32) {
         if let Some(station) = self.workers.get(worker as usize) {
-            raise(&station.pages);
+            // No other thread writes it.
+            let pages = station.pages().wrapping_add(1);
+            station.pages.store(pages, Ordering::SeqCst);
         }
     }
 
-    /// So many frames are free: rings for as many workers that have a hart which waits for one. The first of last time is so again until an
-    /// instruction of it has run; then it is the next one that waits.
+    /// So many frames are free: rings for as many workers that have a hart which waits for one. The first of last time is so again while it waits
+    /// and has not had many pages; then it is the next one that waits.
     pub fn offer(&self, frames: usize, offers: &mut Offers) {
         if frames == 0 {
             return;
@@ -340,7 +323,7 @@ impl Signals {
     /// The worker to be offered a frame first, of those that have a hart which waits for one.
     fn first(&self, offers: &mut Offers) -> Option<u64> {
         if let Some(station) = self.workers.get(offers.first as usize) {
-            if station.is_hungry() && offers.stays(station.progress()) {
+            if station.is_hungry() && offers.stays(station.pages()) {
                 return Some(offers.first);
             }
         }
@@ -350,7 +333,7 @@ impl Signals {
             if let Some(station) = self.workers.get(worker as usize) {
                 if station.is_hungry() {
                     offers.first = worker;
-                    offers.since = station.progress();
+                    offers.since = station.pages();
                     return Some(worker);
                 }
             }

@@ -83,11 +83,6 @@ impl<L: Ledger, S: SwapSlot> ProcessLocks<L, S> {
         self.signals().set_hungry(worker, hungry);
     }
 
-    /// Instructions of a hart that a worker carries have run, for which a page had come in.
-    pub fn count_run(&self, worker: u32) {
-        self.signals().count_run(worker);
-    }
-
     /// A page has come in for a hart that a worker carries, which had waited for a frame.
     pub fn count_page(&self, worker: u32) {
         self.signals().count_page(worker);

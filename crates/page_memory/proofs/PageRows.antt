@@ -1,8 +1,8 @@
 -- Laws of pages whose bytes stand in one row.
-use Rattle.std.proofs.Common.{◌≡◌, ℕ, zero, suc, ◌+◌, ◌*◌, ◌≤◌, ◌<◌, List, [], ◌∷◌, ◌++◌, length, take, drop, position, ◌==◌, Option, Some, None, refl, sym, ap, ◌∙◌, arith, append-nil, subst, ◌%◌, ◌≢◌, option_map, option_and_then, Result, Ok, Err, ne_eqb}
+use Rattle.std.proofs.Common.{◌≡◌, ℕ, zero, suc, ◌+◌, ◌*◌, ◌≤◌, ◌<◌, List, [], ◌∷◌, ◌++◌, length, take, drop, position, ◌==◌, Option, Some, None, refl, sym, ap, ◌∙◌, arith, append-nil, append_assoc, replicate, subst, ◌%◌, ◌≢◌, option_map, option_and_then, Result, Ok, Err, ne_eqb}
 use Rattle.std.specs.Option.{IsSomeAnd}
 use Rattle.std.proofs.lemmas.Option.{same_Some, none-some}
-use Rattle.std.proofs.lemmas.List.{take_at, drop_at, take_all, take-append-le, drop-append-le, length-drop, length-append, length-take-le, drop-drop}
+use Rattle.std.proofs.lemmas.List.{take_at, drop_at, take_all, take-append-le, drop-append-le, length-drop, length-append, length-take-le, length-replicate, drop-drop}
 use Rattle.page_memory.specs.declared.rights.Rights.{Rights}
 use Rattle.byteorder.specs.Endian.{little_bytes, little_number}
 use Rattle.std.specs.Ordering.{nat_cmp}
@@ -14,12 +14,12 @@ use Rattle.page_memory.specs.declared.words.Access.TheVariants.{Load, Store}
 use Rattle.page_memory.specs.declared.fault.MemoryFault.{MemoryFault}
 use Rattle.page_memory.specs.declared.fault.MemoryFault.TheVariants.{Misaligned}
 use Rattle.page_memory.specs.Words.{page_number, bytes_in, page_offset}
-use Rattle.page_memory.specs.Rights.{may}
-use Rattle.page_memory.specs.Pages.{Page, Pages, overwritten, usable, with_right, answer_by, aligned_page, if_aligned, number_at, copied_out}
+use Rattle.page_memory.specs.Rights.{may, read_write}
+use Rattle.page_memory.specs.Pages.{Page, Pages, zero_page, overwritten, usable, with_right, answer_by, aligned_page, if_aligned, number_at, copied_out}
 use Rattle.page_memory.specs.Remembered.{StandsAt}
 use Rattle.page_memory.specs.EntriesLaws.{value_by_place}
 use Rattle.page_memory.specs.AccessLaws.{usable_found, aligned_usable}
-use Rattle.page_memory.specs.Entries.{pages_of, place_of, value_at, with_value}
+use Rattle.page_memory.specs.Entries.{pages_of, place_of, value_at, with_value, added_unless, added, with_added, LacksOne}
 use Rattle.page_memory.specs.PageRow.{pages_in, page_of_row, with_page, Rewritten}
 
 pages_same : (es : List (ℕ × Rights)) (bytes : List ℕ) → pages_of (pages_in es bytes) ≡ pages_of es
@@ -108,22 +108,70 @@ row_pushed (e ∷ es) bytes number rights new all whole =
     (λ i. (e.0, record { rights = e.1; bytes = first i }) ∷ pages_in (es ++ (number, rights) ∷ []) (others i))
     ∙ ap (λ l. (e.0, record { rights = e.1; bytes = take 4096 bytes }) ∷ l) (row_pushed es (drop 4096 bytes) number rights new (omega arith) whole)
 
--- the first pages are kept
-pub row_cut : (count : ℕ) (es : List (ℕ × Rights)) (bytes : List ℕ) → length bytes ≡ length es * 4096 → count ≤ length es
-    → pages_in (take count es) (take (count * 4096) bytes) ≡ take count (pages_in es bytes)
-unfolding pages_in
-row_cut zero es bytes all few = refl
-row_cut (suc count) [] bytes all few = absurd (omega arith)
-row_cut (suc count) (e ∷ es) bytes all few =
-    let long : 4096 ≤ length bytes = omega arith in
-    let at : suc count * 4096 ≡ 4096 + count * 4096 = omega arith in
-    let same : take (suc count * 4096) bytes ≡ take (4096 + count * 4096) bytes ++ [] = ap (λ n. take n bytes) at ∙ sym (append-nil (take (4096 + count * 4096) bytes)) in
-    let first : take 4096 (take (suc count * 4096) bytes) ≡ take 4096 bytes = ap (take 4096) same ∙ fore 4096 (count * 4096) bytes [] long in
-    let others : drop 4096 (take (suc count * 4096) bytes) ≡ take (count * 4096) (drop 4096 bytes) =
-    ap (drop 4096) same ∙ behind 4096 (count * 4096) bytes [] long ∙ append-nil (take (count * 4096) (drop 4096 bytes)) in
-    let left = length-drop 4096 bytes in
-    (λ i. (e.0, record { rights = e.1; bytes = first i }) ∷ pages_in (take count es) (others i))
-    ∙ ap (λ l. (e.0, record { rights = e.1; bytes = take 4096 bytes }) ∷ l) (row_cut count es (drop 4096 bytes) (omega arith) (omega arith))
+abbrev pub zeros : ℕ → List ℕ
+zeros count = replicate count 0
+
+replicated : (m n : ℕ) → zeros (m + n) ≡ zeros m ++ zeros n
+replicated zero n = let e : 0 + n ≡ n = omega arith in ap zeros e
+replicated (suc m) n = let e : suc m + n ≡ suc (m + n) = omega arith in ap zeros e ∙ ap (λ l. 0 ∷ l) (replicated m n)
+
+-- pages of zeros come behind the others: so many more, with their zeros behind the bytes
+pub record ZeroedRow (first count : ℕ) (es : List (ℕ × Rights)) (bytes : List ℕ) : Type 0 where
+  pub more : ℕ
+  pub few : more ≤ count
+  pub long : length (with_added first count read_write es) ≡ length es + more
+  pub row : pages_in (with_added first count read_write es) (bytes ++ zeros (more * 4096)) ≡ with_added first count zero_page (pages_in es bytes)
+
+-- one more
+zeroed_one : (now : List (ℕ × Rights)) (bytes : List ℕ) (number k : ℕ) → length (bytes ++ zeros (k * 4096)) ≡ length now * 4096
+    → pages_in (now ++ (number, read_write) ∷ []) (bytes ++ zeros (suc k * 4096)) ≡ pages_in now (bytes ++ zeros (k * 4096)) ++ (number, zero_page) ∷ []
+zeroed_one now bytes number k room =
+    let count : suc k * 4096 ≡ k * 4096 + 4096 = omega arith in
+    let more : bytes ++ zeros (suc k * 4096) ≡ (bytes ++ zeros (k * 4096)) ++ zeros 4096 =
+    ap (λ n. bytes ++ zeros n) count ∙ ap (λ l. bytes ++ l) (replicated (k * 4096) 4096) ∙ sym (append_assoc bytes (zeros (k * 4096)) (zeros 4096)) in
+    ap (pages_in (now ++ (number, read_write) ∷ [])) more
+    ∙ row_pushed now (bytes ++ zeros (k * 4096)) number read_write (zeros 4096) room (length-replicate {A = ℕ} 4096 0)
+
+module _ (es : List (ℕ × Rights)) (bytes : List ℕ) (all : length bytes ≡ length es * 4096) where
+  zeroed_next : (first count : ℕ) (place : Option ℕ) → place_of (first + count) (with_added first count read_write es) ≡ place → ZeroedRow first count es bytes → ZeroedRow first (suc count) es bytes
+  unfolding with_added added
+  zeroed_next first count (Some place) at before =
+      let now = with_added first count read_write es in
+      let rows = bytes ++ zeros (before.more * 4096) in
+      let same : with_added first (suc count) read_write es ≡ now = ap (λ o. added_unless o (first + count) read_write now) at in
+      let there : place_of (first + count) (with_added first count zero_page (pages_in es bytes)) ≡ Some place =
+      ap (place_of (first + count)) (sym before.row) ∙ same_place (first + count) now rows ∙ at in
+      record {
+        more = before.more;
+        few = (let few = before.few in omega (arith, few));
+        long = ap length same ∙ before.long;
+        row = ap (λ l. pages_in l rows) same ∙ before.row ∙ sym (ap (λ o. added_unless o (first + count) zero_page (with_added first count zero_page (pages_in es bytes))) there);
+      }
+  zeroed_next first count None at before =
+      let now = with_added first count read_write es in
+      let rows = bytes ++ zeros (before.more * 4096) in
+      let same : with_added first (suc count) read_write es ≡ now ++ (first + count, read_write) ∷ [] = ap (λ o. added_unless o (first + count) read_write now) at in
+      let nowhere : place_of (first + count) (with_added first count zero_page (pages_in es bytes)) ≡ None =
+      ap (place_of (first + count)) (sym before.row) ∙ same_place (first + count) now rows ∙ at in
+      let long = before.long in
+      let room : length rows ≡ length now * 4096 = omega (arith, length-append bytes (zeros (before.more * 4096)), length-replicate {A = ℕ} (before.more * 4096)) in
+      record {
+        more = suc before.more;
+        few = (let few = before.few in omega (arith, few));
+        long = ap length same ∙ (let n = length-append now ((first + count, read_write) ∷ []) in omega (arith, n, long));
+        row =
+            ap (λ l. pages_in l (bytes ++ zeros (suc before.more * 4096))) same ∙ zeroed_one now bytes (first + count) before.more room ∙ ap (λ l. l ++ (first + count, zero_page) ∷ []) before.row
+            ∙ sym (ap (λ o. added_unless o (first + count) zero_page (with_added first count zero_page (pages_in es bytes))) nowhere);
+      }
+
+  pub zeroed_row : (first count : ℕ) → ZeroedRow first count es bytes
+  unfolding with_added
+  zeroed_row first zero = record { more = 0; few = omega arith; long = omega arith; row = ap (pages_in es) (append-nil bytes) }
+  zeroed_row first (suc count) = zeroed_next first count (place_of (first + count) (with_added first count read_write es)) refl (zeroed_row first count)
+
+  pub row_lacks : (first count : ℕ) → LacksOne first count es → LacksOne first count (pages_in es bytes)
+  row_lacks first count lacks =
+      record { number = lacks.number; above = lacks.above; below = lacks.below; absent = same_place lacks.number es bytes ∙ lacks.absent }
 
 -- what a write to a part of the row leaves
 pub part_written : (a k : ℕ) (xs ys zs : List ℕ) → k ≡ 4096 → ys ≡ zs → take a xs ++ (ys ++ drop k (drop a xs)) ≡ take a xs ++ (zs ++ drop (a + 4096) xs)
@@ -169,9 +217,6 @@ module _ (es : List (ℕ × Rights)) (bytes : List ℕ) (place : ℕ) (now : Lis
       ap (pages_in es) made ∙ row_written es bytes place (overwritten page.bytes offset w) page all (long_overwritten page.bytes offset w whole fits) there
       ∙ ap (λ l. with_value l place (record page { bytes = overwritten page.bytes offset w })) is in
       subst (λ (o : Option Page). IsSomeAnd o (λ page. pages_in es bytes' ≡ with_value now place (record page { bytes = overwritten page.bytes offset w }))) (sym (shows is r.0 r.1)) changed
-
-pub kept_all : (count : ℕ) (pages : List (ℕ × Page)) → length pages ≤ count → pages ≡ take count pages
-kept_all count pages few = sym (take_all count pages few)
 
 -- the page that an access may use, by its place
 pub not_usable : (pages : List (ℕ × Page)) (access : Access) (address number : ℕ) (fault : MemoryFault) → number ≡ page_number address

@@ -1,5 +1,5 @@
 -- Entries by page number: a page's place is where its entry stands in the list.
-use Rattle.std.specs.Prelude.{◌≡◌, ℕ, zero, suc, ◌+◌, ◌==◌, List, [], ◌∷◌, ◌++◌, Option, Some, None, map, position}
+use Rattle.std.specs.Prelude.{◌≡◌, ℕ, zero, suc, ◌+◌, ◌==◌, ◌<◌, ◌≤◌, List, [], ◌∷◌, ◌++◌, Option, Some, None, map, position}
 use Rattle.std.specs.List.{slice_get}
 use Rattle.std.specs.Ordering.{nat_cmp}
 use Rattle.std.specs.FinMap.{FinMap, insert, from_entries}
@@ -45,3 +45,10 @@ map_by f entries = from_entries (map (λ e. (e.0, f e.1)) entries)
 -- one page has another value, or gets its first one; every other page is as it was
 pub record ChangesPage {T : Type 0} (old new : List (ℕ × T)) (page : ℕ) (value : T) : Type 0 where
   pub changed : from_entries {R = nat_cmp} new ≡ insert (from_entries old) page value
+
+-- of so many page numbers from the first on, one that has no entry
+pub record LacksOne {T : Type 0} (first count : ℕ) (entries : List (ℕ × T)) : Type 0 where
+  pub number : ℕ
+  pub above : first ≤ number
+  pub below : number < first + count
+  pub absent : place_of number entries ≡ None

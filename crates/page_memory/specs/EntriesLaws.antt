@@ -1,5 +1,5 @@
 -- What entries by page number say as a finite map, and what becomes of it where one page changes.
-use Rattle.std.proofs.Common.{◌≡◌, ℕ, zero, suc, ◌+◌, List, [], ◌∷◌, ◌++◌, length, slice_get, Option, Some, None, option_map, option_and_then, position, ◌==◌, nat_lt, Bool, true, false, cond, take, set, append_assoc, append-nil, arith, refl, sym, ap, ◌∙◌, lt-ltb, eqb-true, eq-eqb, inl, inr, true≢false}
+use Rattle.std.proofs.Common.{◌≡◌, ℕ, zero, suc, ◌+◌, ◌-◌, ◌<◌, ◌≤◌, List, [], ◌∷◌, ◌++◌, length, slice_get, Option, Some, None, option_map, option_and_then, position, ◌==◌, nat_lt, Bool, true, false, cond, take, set, append_assoc, append-nil, arith, refl, sym, ap, ◌∙◌, lt-ltb, eqb-true, eq-eqb, inl, inr, true≢false}
 use Rattle.std.specs.List.{position_or_len}
 use Rattle.std.specs.Ordering.{nat_cmp, eq_by_cmp}
 use Rattle.std.specs.Cmp.{nat_cmp_total}
@@ -9,7 +9,7 @@ use Rattle.std.proofs.lemmas.Option.{none-some, same_Some, slice_get_cases}
 use Rattle.std.proofs.lemmas.List.{map-append}
 use Rattle.std.proofs.lemmas.List.Quantifiers.{position-Some}
 use Rattle.std.proofs.Math.Seq.{take-append_seam}
-use Rattle.page_memory.specs.Entries.{pages_of, values_of, place_of, value_at, with_value, added_unless, added, with_added}
+use Rattle.page_memory.specs.Entries.{pages_of, values_of, place_of, value_at, with_value, added_unless, added, with_added, LacksOne}
 
 -- the order of numbers finds just the equal ones
 pub equal_by_order : (q page : ℕ) → eq_by_cmp nat_cmp q page ≡ (page == q)
@@ -201,5 +201,48 @@ module _ {T : Type 0} where
   front_stays entries first count value =
       let more = added_at_end entries first count value in
       ap (take (length entries)) more.1 ∙ take-append_seam entries more.0
+
+  -- a page that is missing once others were added was missing before
+  absent_one : (entries : List (ℕ × T)) (number q : ℕ) (value : T) → place_of q (added number value entries) ≡ None → place_of q entries ≡ None
+  unfolding added
+  absent_one entries number q value none = by_place (place_of number entries) none
+    where
+      by_end : (o : Option ℕ) → place_of q entries ≡ o → place_of q (entries ++ (number, value) ∷ []) ≡ None → o ≡ None
+      by_end None at gone = refl
+      by_end (Some k) at gone = absurd (none-some _ (sym gone ∙ place_stays entries (number, value) q k at))
+
+      by_place : (o : Option ℕ) → place_of q (added_unless o number value entries) ≡ None → place_of q entries ≡ None
+      by_place (Some place) gone = gone
+      by_place None gone = by_end (place_of q entries) refl gone
+
+  absent_before : (entries : List (ℕ × T)) (first count q : ℕ) (value : T) → place_of q (with_added first count value entries) ≡ None → place_of q entries ≡ None
+  unfolding with_added
+  absent_before entries first zero q value none = none
+  absent_before entries first (suc count) q value none = absent_before entries first count q value (absent_one (with_added first count value entries) (first + count) q value none)
+
+  pub lacks_one : (old now : List (ℕ × T)) (first count number : ℕ) (value : T) → first ≤ number → number < first + count → now ≡ with_added first (number - first) value old → place_of number now ≡ None
+      → LacksOne first count old
+  lacks_one old now first count number value above below is none =
+      record { number = number; above = above; below = below; absent = absent_before old first (number - first) number value (ap (place_of number) (sym is) ∙ none) }
+
+  -- where there are more entries than before, a page was missing
+  grown_by : (entries : List (ℕ × T)) (first count : ℕ) (value : T) (place : Option ℕ) → place_of (first + count) (with_added first count value entries) ≡ place
+      → length entries < length (added_unless place (first + count) value (with_added first count value entries))
+      → (length entries < length (with_added first count value entries) → LacksOne first count entries) → LacksOne first (suc count) entries
+  grown_by entries first count value (Some place) at more before =
+      let lacks = before more in
+      record { number = lacks.number; above = lacks.above; below = (let below = lacks.below in omega (arith, below)); absent = lacks.absent }
+  grown_by entries first count value None at more before =
+      record { number = first + count; above = omega arith; below = omega arith; absent = absent_before entries first count (first + count) value at }
+
+  pub grown_lacks : (entries : List (ℕ × T)) (first count : ℕ) (value : T) → length entries < length (with_added first count value entries) → LacksOne first count entries
+  unfolding with_added added
+  grown_lacks entries first zero value more = absurd (omega arith)
+  grown_lacks entries first (suc count) value more =
+      grown_by entries first count value (place_of (first + count) (with_added first count value entries)) refl more (grown_lacks entries first count value)
+
+  -- in a range where a page is missing there is a page number
+  pub lacking_some : (entries : List (ℕ × T)) (first count : ℕ) → LacksOne first count entries → 0 < count
+  lacking_some entries first count lacks = let above = lacks.above in let below = lacks.below in omega (arith, above, below)
 
 pub ruleset mapping = (no_place, inserted)

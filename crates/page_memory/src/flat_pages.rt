@@ -14,7 +14,6 @@ use crate::recent_pages::RecentPages;
 use crate::reply::Reply;
 use crate::rights::Rights;
 use crate::words::{Access, Width, offset_in_page, offset_past, page_of};
-use crate::zeroing::add_all_zeroed;
 use std::alloc::{AllocError, Global};
 use std::marker::Model;
 
@@ -71,7 +70,7 @@ impl FlatPages {
 
     /// Maps pages of zeros, to be read and written, at so many page numbers from the first on, wherever
     /// none is mapped: all of them, or none where memory is wanting.
-    #[tactic(auto, using(crate::specs::ZeroedLaws::added_zeroed))]
+    #[tactic(auto, using(crate::specs::ZeroedLaws::added_zeroed, crate::specs::EntriesLaws::lacking_some))]
     pub fn map_zeroed(&mut self, first: u32, count: u32) -> Result<(), AllocError>
         requires { first + count ≤ 2 ^ 20 }
         ensures ok { OnOk result (self.new ≡ with_zeroed first count self.old) }
@@ -79,7 +78,7 @@ impl FlatPages {
         ensures some { IsErr result → 0 < count }
     {
         self.recent = RecentPages::new();
-        add_all_zeroed(&mut self.pages, self.alloc, first, count)
+        self.pages.add_zeroed(self.alloc, first, count)
     }
 
     /// Fetches the instruction word at an address. The page is remembered, so that the next fetch from

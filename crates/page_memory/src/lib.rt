@@ -31,3 +31,4 @@ pub use recent_pages::{RecentPage, RecentPages};
 pub use reservations::Reservations;
 pub use rights::Rights;
 pub use words::{Access, PAGE_COUNT, PAGE_SIZE, Width, offset_in_page, offset_past, page_of};
+pub use zeroing::ZeroPage;

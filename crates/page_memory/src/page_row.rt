@@ -1,9 +1,9 @@
-ghost use Rattle.std.specs.Prelude.{◌≡◌, ◌+◌, ◌*◌, ◌/◌, ◌≤◌, ◌^◌, ◌<◌, ◌%◌, [], ◌∷◌, ◌++◌, None, IfOk, IfSome, OnOk, OnErr, length, take};
+ghost use Rattle.std.specs.Prelude.{◌≡◌, ◌+◌, ◌*◌, ◌/◌, ◌≤◌, ◌^◌, ◌<◌, ◌%◌, [], ◌∷◌, ◌++◌, None, IfOk, IfSome, OnOk, OnErr, IsErr, length};
 ghost use Rattle.std.specs.Option.{IsSomeAnd};
 ghost use Rattle.byteorder.specs.Endian.{little_bytes};
-ghost use Rattle.page_memory.specs.Entries.{place_of, value_at};
+ghost use Rattle.page_memory.specs.Entries.{place_of, value_at, with_added, LacksOne};
 ghost use Rattle.page_memory.specs.PageRow.{Rewritten, page_of_row, with_page};
-ghost use Rattle.page_memory.specs.Pages.{overwritten};
+ghost use Rattle.page_memory.specs.Pages.{overwritten, zero_page};
 ghost use Rattle.page_memory.specs.Words.{bytes_in};
 
 use crate::page::Page;
@@ -48,16 +48,6 @@ impl PageRow {
             rights: PageMap::new(alloc)?,
             bytes: Vec::new(alloc),
         })
-    }
-
-    /// How many pages there are.
-    #[tactic(auto, using(crate::proofs::PageRows::as_many))]
-    pub fn len(&self) -> usize
-        ensures { result ≡ length self.now }
-    {
-        // For the proof alone: a read tells its invariant.
-        let _ = &self.bytes;
-        self.rights.len()
     }
 
     /// The place of a page.
@@ -147,7 +137,7 @@ impl PageRow {
     }
 
     /// The same for a page of these rights and bytes. Room for the bytes is found before anything changes.
-    pub fn push(
+    fn push(
         &mut self,
         alloc: Global,
         number: u32,
@@ -169,23 +159,23 @@ impl PageRow {
         }
     }
 
-    /// Keeps only so many pages, the first ones.
-    #[tactic(auto, using(crate::proofs::PageRows::kept_all))]
-    pub fn truncate(&mut self, count: usize)
-        ensures { self.new ≡ take count self.old }
+    /// Adds a page of zeros, to be read and written, at each of so many page numbers from the first on that has none, or
+    /// at none where memory is wanting, as it can be only where one is missing.
+    pub fn add_zeroed(&mut self, alloc: Global, first: u32, count: u32) -> Result<(), AllocError>
+        requires { first + count ≤ 2 ^ 20 }
+        ensures ok { OnOk result (self.new ≡ with_added first count zero_page self.old) }
+        ensures err { OnErr result (self.new ≡ self.old) }
+        ensures missing { IsErr result → LacksOne first count self.old }
     {
-        if count < self.len() {
-            self.cut(count);
+        let before = self.rights.len();
+        self.rights.add_zeroed(alloc, first, count)?;
+        match self.bytes.resize(self.rights.len() * PAGE_SIZE, 0) {
+            Ok(()) => Ok(()),
+            Err(refusal) => {
+                self.rights.truncate(before);
+                Err(refusal)
+            }
         }
-    }
-
-    /// The same where there are so many.
-    fn cut(&mut self, count: usize)
-        requires { count ≤ length self.old }
-        ensures { self.new ≡ take count self.old }
-    {
-        self.rights.truncate(count);
-        self.bytes.truncate(count * PAGE_SIZE);
     }
 }
 

@@ -80,13 +80,6 @@ impl RecentPages {
     }
 }
 
-/// A set of pages in which there is none.
-impl Default for RecentPages {
-    fn default() -> RecentPages {
-        RecentPages::new()
-    }
-}
-
 fn no_pages() -> [RecentPage; COUNT as usize]
     ensures { result ≡ replicate 64 nowhere }
 {

@@ -1,46 +1,61 @@
-ghost use Rattle.std.specs.Prelude.{◌≡◌, ◌+◌, ◌≤◌, ◌^◌, ◌<◌, OnOk, OnErr, IsErr, None};
-ghost use Rattle.page_memory.specs.Pages.{zero_page};
-ghost use Rattle.page_memory.specs.Entries.{place_of, added, with_added};
+ghost use Rattle.std.specs.Prelude.{◌≡◌, ◌+◌, ◌≤◌, ◌^◌, ◌<◌, None, OnOk, OnErr, IsErr};
+ghost use Rattle.page_memory.specs.Entries.{place_of, added, with_added, LacksOne};
+ghost use Rattle.page_memory.specs.Rights.{read_write};
 
-use crate::page_row::PageRow;
+use crate::page_map::PageMap;
 use crate::rights::Rights;
-use crate::words::PAGE_SIZE;
 use std::alloc::{AllocError, Global};
 
-/// Adds a page of zeros at each of so many page numbers from the first on that has none, or at none.
-#[tactic(auto, using(crate::specs::EntriesLaws::front_stays), unfolding(crate::specs::Entries::with_added))]
-pub(crate) fn add_all_zeroed(
-    pages: &mut PageRow,
-    alloc: Global,
-    first: u32,
-    count: u32,
-) -> Result<(), AllocError>
-    requires { first + count ≤ 2 ^ 20 }
-    ensures ok { OnOk result (pages.new ≡ with_added first count zero_page pages.old) }
-    ensures err { OnErr result (pages.new ≡ pages.old) }
-    ensures some { IsErr result → 0 < count }
-{
-    let before = pages.len();
-    for number in first..first + count {
-        if add_zeroed(pages, alloc, number).is_err() {
-            pages.truncate(before);
-            return Err(AllocError);
-        }
-    }
-    Ok(())
+/// What a map keeps for a page of zeros that may be read and written.
+pub trait ZeroPage: Drop {
+    /// All that are made are alike.
+    ghost zero_page: { Self };
+
+    /// What is kept for a new one.
+    fn zero_page() -> Self
+        ensures { result ≡ zero_page };
 }
 
-/// Adds a page of zeros at a page number that has none.
-#[tactic(auto, using(crate::specs::EntriesLaws::added_behind), unfolding(crate::specs::Entries::added))]
-fn add_zeroed(pages: &mut PageRow, alloc: Global, number: u32) -> Result<(), AllocError>
-    requires { number < 2 ^ 20 }
-    ensures ok { OnOk result (pages.new ≡ added number zero_page pages.old) }
-    ensures err { OnErr result (pages.new ≡ pages.old) }
-    ensures absent { IsErr result → place_of number pages.old ≡ None }
-{
-    if pages.place(number).is_some() {
-        return Ok(());
+impl ZeroPage for Rights {
+    ghost zero_page = { read_write };
+
+    fn zero_page() -> Rights {
+        Rights::READ_WRITE
     }
-    pages.push(alloc, number, Rights::READ_WRITE, &[0; PAGE_SIZE])?;
-    Ok(())
+}
+
+impl<T: ZeroPage> PageMap<T> {
+    /// Adds a page of zeros at each of so many page numbers from the first on that has none, or at none where memory is
+    /// wanting, as it can be only where one is missing.
+    #[tactic(auto, using(crate::specs::EntriesLaws::front_stays, crate::specs::EntriesLaws::lacks_one), unfolding(crate::specs::Entries::with_added))]
+    pub fn add_zeroed(&mut self, alloc: Global, first: u32, count: u32) -> Result<(), AllocError>
+        requires { first + count ≤ 2 ^ 20 }
+        ensures ok { OnOk result (self.new ≡ with_added first count T.zero_page self.old) }
+        ensures err { OnErr result (self.new ≡ self.old) }
+        ensures missing { IsErr result → LacksOne first count self.old }
+    {
+        let before = self.len();
+        for number in first..first + count {
+            if self.add_zero_page(alloc, number).is_err() {
+                self.truncate(before);
+                return Err(AllocError);
+            }
+        }
+        Ok(())
+    }
+
+    /// Adds a page of zeros at a page number that has none.
+    #[tactic(auto, using(crate::specs::EntriesLaws::added_behind), unfolding(crate::specs::Entries::added))]
+    fn add_zero_page(&mut self, alloc: Global, number: u32) -> Result<(), AllocError>
+        requires { number < 2 ^ 20 }
+        ensures ok { OnOk result (self.new ≡ added number T.zero_page self.old) }
+        ensures err { OnErr result (self.new ≡ self.old) }
+        ensures absent { IsErr result → place_of number self.old ≡ None }
+    {
+        if self.place(number).is_some() {
+            return Ok(());
+        }
+        self.insert(alloc, number, T::zero_page())?;
+        Ok(())
+    }
 }

@@ -2,7 +2,8 @@
 use Rattle.std.specs.Prelude.{◌≡◌, ℕ, Bool, true, false, ◌||◌, List, [], Option, Some, None, option_map, IsFalse}
 use Rattle.sha2.specs.Sha256.{sha256}
 use Rattle.page_memory.specs.Pages.{Page}
-use Rattle.frame_pool.specs.FrameValue.{FrameValue}
+use Rattle.page_memory.specs.Rights.{read_write}
+use Rattle.frame_pool.specs.FrameValue.{FrameValue, zero_bytes}
 use Rattle.page_store.specs.Keeping.{Keeping, NoSlot, Saved, Unbacked, Cleaning, CopyOut, kept, copy_in, is_unbacked, is_copy_out}
 use Rattle.page_store.specs.CopyValue.{CopyValue}
 use Rattle.page_store.specs.declared.state.PageState.{PageState}
@@ -22,6 +23,10 @@ pub data Place (S : Type 0) : Type 0 where
 pub record PageValue (S : Type 0) : Type 0 where
   pub origin : Page
   pub place : Place S
+
+-- a page of zeros as a process's memory gets it: it may be read and written, and has no frame yet
+abbrev pub fresh_zero_page : {S : Type 0} → PageValue S
+fresh_zero_page = record { origin = record { rights = read_write; bytes = zero_bytes }; place = Fresh }
 
 abbrev pub page_state_of : {S : Type 0} → Place S → PageState
 page_state_of Fresh = stage.Fresh

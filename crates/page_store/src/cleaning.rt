@@ -78,7 +78,6 @@ impl<L: Ledger, S: SwapSlot> StoredPage<L, S> {
 
     /// Ends the cleaning of a page whose copy comes back, where `dirty` says whether its page-table entry has D, if it has one. Only
     /// where no store followed the copy, and the device passed it, the copy backs the page.
-    #[tactic(auto, using(crate::proofs::CleaningLaws::not_out))]
     pub fn cleaned(&mut self, job: CleanedJob<S>, dirty: bool) -> Cleaned<S>
         ensures ended { EndsCleaning job dirty self.old.place self.new.place result }
         ensures content { content S.content self.new ≡ content S.content self.old }
@@ -86,32 +85,9 @@ impl<L: Ledger, S: SwapSlot> StoredPage<L, S> {
             Backed S.content dirty self.new }
         ensures origin { self.new.origin ≡ self.old.origin }
     {
-        match mem::replace(&mut self.state, State::Purged).into_out() {
-            Ok(Out::Resident(frame)) => match end_cleaning(frame, job, dirty) {
-                Ok((frame, slot, end)) => {
-                    self.state = State::Resident(frame, slot);
-                    end
-                }
-                Err((frame, job)) => {
-                    self.state = State::ResidentOut(frame);
-                    Cleaned::WrongPage(job)
-                }
-            },
-            Ok(Out::Leaving(frame, mark)) => match end_cleaning(frame, job, mark) {
-                Ok((frame, slot, end)) => {
-                    self.state = State::Leaving(frame, slot, mark);
-                    end
-                }
-                Err((frame, job)) => {
-                    self.state = State::LeavingOut(frame, mark);
-                    Cleaned::WrongPage(job)
-                }
-            },
-            Err(other) => {
-                self.state = other;
-                Cleaned::WrongPage(job)
-            }
-        }
+        let (state, end) = mem::replace(&mut self.state, State::Purged).cleaned(job, dirty);
+        self.state = state;
+        end
     }
 }
 
@@ -150,6 +126,30 @@ impl<L: Ledger, S: SwapSlot> State<L, S> {
             State::ResidentOut(frame) => Ok(Out::Resident(frame)),
             State::LeavingOut(frame, mark) => Ok(Out::Leaving(frame, mark)),
             other => Err(other),
+        }
+    }
+
+    /// The state once a copy came back, and what came of the cleaning.
+    #[tactic(auto, using(crate::proofs::CleaningLaws::not_out))]
+    fn cleaned(self, job: CleanedJob<S>, dirty: bool) -> (Self, Cleaned<S>)
+        ensures ended { EndsCleaning job dirty (place_in_state self) (place_in_state result.0)
+            result.1 }
+        ensures shown { (origin : List ℕ) → shown S.content origin (place_in_state result.0) ≡
+            shown S.content origin (place_in_state self) }
+        ensures backed { S.honest → (origin : List ℕ) →
+            BackedAt S.content origin dirty (place_in_state self) →
+            BackedAt S.content origin dirty (place_in_state result.0) }
+    {
+        match self.into_out() {
+            Ok(Out::Resident(frame)) => match end_cleaning(frame, job, dirty) {
+                Ok((frame, slot, end)) => (State::Resident(frame, slot), end),
+                Err((frame, job)) => (State::ResidentOut(frame), Cleaned::WrongPage(job)),
+            },
+            Ok(Out::Leaving(frame, mark)) => match end_cleaning(frame, job, mark) {
+                Ok((frame, slot, end)) => (State::Leaving(frame, slot, mark), end),
+                Err((frame, job)) => (State::LeavingOut(frame, mark), Cleaned::WrongPage(job)),
+            },
+            Err(other) => (other, Cleaned::WrongPage(job)),
         }
     }
 }

@@ -10,6 +10,7 @@ ghost use Rattle.page_store.specs.PageValue.{Leaving, Saving, Away, Purged, Back
 ghost use Rattle.page_store.specs.PageValue.{shown, changed as counts_as_changed, Known, content};
 ghost use Rattle.page_store.specs.PageValue.{page_state_of, frame_of, writable, failures_at};
 ghost use Rattle.page_store.specs.PageValue.{kept_digest, Matches, is_out, slot_of};
+ghost use Rattle.page_store.specs.PageValue.{fresh_zero_page};
 ghost use Rattle.page_store.specs.Reading.{some_from};
 ghost use Rattle.page_store.specs.View.{keeping_of, place_in_state};
 
@@ -19,7 +20,7 @@ use crate::reading::read_bytes;
 use crate::refusal::{FillFault, LeaveRefusal, NotLeaving, ReadFault};
 use crate::state::{Absent, Keeping, Origin, PageState, State};
 use frame_pool::{BareFrame, Frame};
-use page_memory::Rights;
+use page_memory::{Rights, ZeroPage};
 use shared_origins::SharedPage;
 use std::marker::Model;
 use std::mem;
@@ -40,6 +41,14 @@ impl<L: Ledger, S: SwapSlot> Model for StoredPage<L, S> {
     ghost Value = { PageValue S };
 
     ghost view = { λ p. record { origin = origin_of p.origin; place = place_in_state p.state } };
+}
+
+impl<L: Ledger, S: SwapSlot> ZeroPage for StoredPage<L, S> {
+    ghost zero_page = { fresh_zero_page };
+
+    fn zero_page() -> Self {
+        StoredPage::zeroed(Rights::READ_WRITE)
+    }
 }
 
 impl<L: Ledger, S: SwapSlot> StoredPage<L, S> {

@@ -14,12 +14,11 @@ use Rattle.page_memory.specs.Reservations.{Reservations}
 use Rattle.page_memory.specs.Entries.{place_of, added, added_unless, with_added}
 use Rattle.page_memory.specs.EntriesLaws.{inserted, place_stays}
 use Rattle.page_memory.specs.StandsForLaws.{entry-changes, map_by-added}
-use Rattle.page_store.specs.PageValue.{PageValue, Fresh}
+use Rattle.page_store.specs.PageValue.{PageValue, Fresh, fresh_zero_page}
 use Rattle.sv32_table.specs.Entry.{blank}
 use Rattle.sv32_table.specs.EntryAt.{entry_at}
 use Rattle.tlb_core.specs.declared.translation.Translation.{Translation}
 use Rattle.paged_memory.specs.Seen.{entry_seen, frame_seen}
-use Rattle.paged_memory.specs.Growth.{fresh_zero_page, LacksOne}
 use Rattle.paged_memory.specs.Paged.{PagedValue, seen_of, page_at, seen_at, flat_page, flat_pages, memory_in, Holds, ChangesPage}
 use Rattle.page_store.specs.Lending.{with_bytes}
 use Rattle.paged_memory.specs.HartMemory.{KeepsPages}
@@ -75,34 +74,6 @@ module _ {S : Type 0} where
   pub memory_zeroed : (held : S → List ℕ) (pages : List (ℕ × PageValue S)) (first count : ℕ) → flat_pages held (with_added first count fresh_zero_page pages) ≡ with_zeroed first count (flat_pages held pages)
   unfolding flat_pages zero_bytes
   memory_zeroed held pages first count = map_by-added (flat_page held) pages first count fresh_zero_page refl
-
--- a page that is missing once others were added was missing before
-module _ {S : Type 0} where
-  absent_one : (pages : List (ℕ × PageValue S)) (number q : ℕ) (page : PageValue S) → place_of q (added number page pages) ≡ None → place_of q pages ≡ None
-  unfolding added
-  absent_one pages number q page none = by_place (place_of number pages) none
-    where
-      by_end : (o : Option ℕ) → place_of q pages ≡ o → place_of q (pages ++ (number, page) ∷ []) ≡ None → o ≡ None
-      by_end None at gone = refl
-      by_end (Some k) at gone = absurd (none-some _ (sym gone ∙ place_stays pages (number, page) q k at))
-
-      by_place : (o : Option ℕ) → place_of q (added_unless o number page pages) ≡ None → place_of q pages ≡ None
-      by_place (Some place) gone = gone
-      by_place None gone = by_end (place_of q pages) refl gone
-
-  absent_before : (pages : List (ℕ × PageValue S)) (first count q : ℕ) (page : PageValue S) → place_of q (with_added first count page pages) ≡ None → place_of q pages ≡ None
-  unfolding with_added
-  absent_before pages first zero q page none = none
-  absent_before pages first (suc count) q page none = absent_before pages first count q page (absent_one (with_added first count page pages) (first + count) q page none)
-
-  pub lacks_one : (old now : List (ℕ × PageValue S)) (first count number : ℕ) → first ≤ number → number < first + count → now ≡ with_added first (number - first) fresh_zero_page old → place_of number now ≡ None
-      → LacksOne first count old
-  lacks_one old now first count number above below is none =
-      record { number = number; above = above; below = below; absent = absent_before old first (number - first) number fresh_zero_page (ap (place_of number) (sym is) ∙ none) }
-
-  -- in a range where a page is missing there is a page number
-  pub lacking_some : (pages : List (ℕ × PageValue S)) (first count : ℕ) → LacksOne first count pages → 0 < count
-  lacking_some pages first count lacks = let above = lacks.above in let below = lacks.below in omega (arith, above, below)
 
 -- the pages that were there stay, and the others are pages of zeros
 module _ {S : Type 0} where

@@ -2,13 +2,12 @@
 use Rattle.std.proofs.Common.{◌≡◌, ℕ, ◌^◌, ◌<◌, Bool, true, false, ◌&&◌, List, [], Option, Some, None, option_map, option_and_then, is_some, length, nat_lt, slice_set, refl, sym, ap, ◌∙◌}
 use Rattle.std.specs.Prelude.{if◌then◌else◌}
 use Rattle.page_store.specs.Lending.{with_bytes, rewritten}
-use Rattle.page_store.specs.PageValue.{PageValue, Place, Fresh, Resident, Leaving, Saving, Away, Purged, frame_of, slot_of, page_state_of}
+use Rattle.page_store.specs.PageValue.{PageValue, Place, Fresh, Resident, Leaving, Saving, Away, Purged, frame_of, slot_of, page_state_of, fresh_zero_page}
 use Rattle.page_store.specs.Keeping.{is_copy_out}
 use Rattle.paged_memory.specs.Copies.{KeepsCopies, LeavesCopies, is_copied_in}
 use Rattle.paged_memory.specs.CopiesToldLaws.{leaves_tables}
 use Rattle.paged_memory.specs.Counting.{page_passes, pages_where, is_resident_place, is_saving_place, frame_passes, is_kept, residents_of, savings_of, frames_of, slots_of}
 use Rattle.paged_memory.specs.CountingLaws.{same_where_pass}
-use Rattle.paged_memory.specs.Growth.{fresh_zero_page}
 use Rattle.paged_memory.specs.HartMemory.{KeepsPages}
 use Rattle.paged_memory.specs.Moving.{SamePage}
 use Rattle.paged_memory.specs.Notices.{noticed, emptied}

@@ -3,10 +3,9 @@ use Rattle.std.specs.Prelude.{◌≡◌, ℕ, ◌^◌, ◌<◌, None, List, [], 
 use Rattle.page_memory.specs.Entries.{place_of, with_added}
 use Rattle.page_memory.specs.Pages.{Page}
 use Rattle.page_memory.specs.Reservations.{none_reserved}
-use Rattle.page_store.specs.PageValue.{PageValue, Fresh}
+use Rattle.page_store.specs.PageValue.{PageValue, Fresh, fresh_zero_page}
 use Rattle.sv32_table.specs.Entry.{blank}
 use Rattle.sv32_table.specs.EntryAt.{entry_at}
-use Rattle.paged_memory.specs.Growth.{fresh_zero_page}
 use Rattle.paged_memory.specs.Paged.{PagedValue}
 
 module _ {S : Type 0} where

@@ -10,7 +10,7 @@ use Rattle.page_memory.specs.Pages.{Page, zero_page}
 use Rattle.page_memory.specs.Reservations.{none_reserved}
 use Rattle.sv32_table.specs.EntryAt.{entry_at}
 use Rattle.paged_memory.specs.Fresh.{fresh, all_fresh, HasFresh, IsUnmapped, AddsFresh, AddsZeros, AddsHart, MapsFresh}
-use Rattle.paged_memory.specs.Growth.{fresh_zero_page}
+use Rattle.page_store.specs.PageValue.{fresh_zero_page}
 use Rattle.paged_memory.specs.Paged.{PagedValue, flat_page, flat_pages, memory_of}
 
 module _ (S : Type 0) where

@@ -1,7 +1,7 @@
 -- What a hart's accesses keep of a process's memory, beside what it holds.
 use Rattle.std.specs.Prelude.{◌≡◌, ◌≢◌, ℕ, ◌^◌, ◌<◌, ◌⊎◌, Bool, true, is_some, Some, None, List, length}
 use Rattle.page_memory.specs.Entries.{place_of}
-use Rattle.page_store.specs.PageValue.{PageValue}
+use Rattle.page_store.specs.PageValue.{PageValue, fresh_zero_page}
 use Rattle.sv32_table.specs.EntryAt.{entry_at, SameTables}
 use Rattle.tlb_core.specs.declared.translation.Translation.{Translation}
 use Rattle.tlb_core.specs.Cache.{translation_of}
@@ -11,7 +11,6 @@ use Rattle.page_memory.specs.declared.words.Access.{Access}
 use Rattle.paged_memory.specs.Access.{HasPage, ServedDoomed, bare_at, cache_of}
 use Rattle.paged_memory.specs.Copies.{KeepsCopies}
 use Rattle.paged_memory.specs.OwnCache.{GoesOn, KeepsDoomed}
-use Rattle.paged_memory.specs.Growth.{fresh_zero_page}
 
 -- pages that were there stay where they are, but for the bytes in their frames; others are pages of zeros that were mapped
 pub record KeepsPages {S : Type 0} (old new : List (ℕ × PageValue S)) : Type 0 where

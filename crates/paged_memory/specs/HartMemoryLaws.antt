@@ -3,7 +3,7 @@ use Rattle.std.specs.Prelude.{◌≡◌, ℕ, ◌⊎◌, true, false, is_some, o
 use Rattle.std.proofs.Common.{sym, ap, ◌∙◌, subst, arith, inl, inr}
 use Rattle.std.proofs.lemmas.Bool.Decides.{eqb_tells}
 use Rattle.std.proofs.lemmas.Option.{none-some, same_Some}
-use Rattle.page_store.specs.PageValue.{PageValue, Place, Fresh, Resident, Leaving, Saving, Away, Purged}
+use Rattle.page_store.specs.PageValue.{PageValue, Place, Fresh, Resident, Leaving, Saving, Away, Purged, fresh_zero_page}
 use Rattle.page_store.specs.Lending.{with_bytes, rewritten}
 use Rattle.sv32_table.specs.EntryAt.{entry_at, has_table}
 use Rattle.tlb_core.specs.declared.translation.Translation.{Translation}
@@ -14,7 +14,6 @@ use Rattle.paged_memory.specs.Access.{HasPage, LacksPage, KeepsBare, KeepsTransl
 use Rattle.paged_memory.specs.CopiesLaws.{copies_itself, copies_on, copies_kept}
 use Rattle.paged_memory.specs.OwnCache.{GoesOn, KeepsDoomed}
 use Rattle.paged_memory.specs.OwnCacheLaws.{goes_itself, goes_on, goes_filled}
-use Rattle.paged_memory.specs.Growth.{fresh_zero_page}
 use Rattle.paged_memory.specs.HartMemory.{InTurn, KeepsPages, KeepsAccess, MarksSince, ServedBefore}
 
 -- what went through a translation that is to be dropped went through the one that was there before

@@ -6,7 +6,6 @@ pub mod Leaving
 pub mod Access
 pub mod Accesses
 pub mod Replies
-pub mod Growth
 pub mod Counting
 pub mod CountingLaws
 pub mod FewerLaws

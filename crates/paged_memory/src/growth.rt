@@ -1,14 +1,13 @@
-ghost use Rattle.std.specs.Prelude.{◌≡◌, true, ◌+◌, ◌≤◌, ◌<◌, ◌^◌, None, OnOk, OnErr, IsErr};
+ghost use Rattle.std.specs.Prelude.{◌≡◌, true, ◌+◌, ◌≤◌, ◌<◌, ◌^◌, OnOk, OnErr, IsErr};
 ghost use Rattle.page_memory.specs.Memory.{with_zeroed};
 ghost use Rattle.page_memory.specs.Rights.{may};
 ghost use Rattle.page_memory.specs.declared.words.Access.{Access};
-ghost use Rattle.page_memory.specs.Entries.{place_of, added, with_added};
+ghost use Rattle.page_memory.specs.Entries.{LacksOne, with_added};
 ghost use Rattle.paged_memory.specs.Paged.{memory_of};
 ghost use Rattle.paged_memory.specs.Fresh.{AddsFresh, AddsZeros, IsUnmapped};
-ghost use Rattle.paged_memory.specs.Growth.{fresh_zero_page, LacksOne};
+ghost use Rattle.page_store.specs.PageValue.{fresh_zero_page};
 
 use crate::memory::PagedMemory;
-use page_memory::{PageMap, Rights};
 use page_store::StoredPage;
 use shared_origins::SharedPage;
 use std::alloc::{AllocError, Global};
@@ -51,48 +50,6 @@ impl<L: Ledger, S: SwapSlot> PagedMemory<L, S> {
         ensures caches { self.new.caches ≡ self.old.caches }
         ensures reserved { self.new.reserved ≡ self.old.reserved }
     {
-        add_all_zeroed(&mut self.pages, self.alloc, first, count)
+        self.pages.add_zeroed(self.alloc, first, count)
     }
-}
-
-/// Adds a page of zeros at each of so many page numbers from the first on that has none, or at none.
-#[tactic(auto, using(page_memory::specs::EntriesLaws::front_stays, crate::proofs::GrowthLaws::lacks_one), unfolding(page_memory::specs::Entries::with_added))]
-fn add_all_zeroed<L: Ledger, S: SwapSlot>(
-    pages: &mut PageMap<StoredPage<L, S>>,
-    alloc: Global,
-    first: u32,
-    count: u32,
-) -> Result<(), AllocError>
-    requires { first + count ≤ 2 ^ 20 }
-    ensures ok { OnOk result (pages.new ≡ with_added first count fresh_zero_page pages.old) }
-    ensures err { OnErr result (pages.new ≡ pages.old) }
-    ensures missing { IsErr result → LacksOne first count pages.old }
-{
-    let before = pages.len();
-    for number in first..first + count {
-        if add_zeroed(pages, alloc, number).is_err() {
-            pages.truncate(before);
-            return Err(AllocError);
-        }
-    }
-    Ok(())
-}
-
-/// Adds a page of zeros at a page number that has none.
-#[tactic(auto, using(page_memory::specs::EntriesLaws::added_behind), unfolding(page_memory::specs::Entries::added))]
-fn add_zeroed<L: Ledger, S: SwapSlot>(
-    pages: &mut PageMap<StoredPage<L, S>>,
-    alloc: Global,
-    number: u32,
-) -> Result<(), AllocError>
-    requires { number < 2 ^ 20 }
-    ensures ok { OnOk result (pages.new ≡ added number fresh_zero_page pages.old) }
-    ensures err { OnErr result (pages.new ≡ pages.old) }
-    ensures absent { IsErr result → place_of number pages.old ≡ None }
-{
-    if pages.place(number).is_some() {
-        return Ok(());
-    }
-    pages.insert(alloc, number, StoredPage::zeroed(Rights::READ_WRITE))?;
-    Ok(())
 }

@@ -6,9 +6,9 @@ use Rattle.paged_memory.proofs.memory.PagedMemory.map_zeroed.Goals as goal
 
 pub invariant_of-self : goal.invariant_of-self
 invariant_of-self g c =
-    holds_grown c.add_all_zeroed.result c.self.inside.pages c.add_all_zeroed.new.pages c.args.first c.args.count c.requires c.add_all_zeroed.ensures.ok c.add_all_zeroed.ensures.err c.self.invariant
+    holds_grown c.add_zeroed.result c.self.inside.pages c.add_zeroed.new.self c.args.first c.args.count c.requires c.add_zeroed.ensures.ok c.add_zeroed.ensures.err c.self.invariant
 
 pub returns-clause-memory : goal.returns-clause-memory
 returns-clause-memory g c =
-    subst (λ v. OnOk c.add_all_zeroed.result (memory_in g.S.SwapSlot.content c.add_all_zeroed.new.pages c.self.inside.reservations ≡ with_zeroed c.args.first c.args.count (memory_of g.S.SwapSlot.content v))) c.self.view_is
-    (memory_grown_with g.S.SwapSlot.content c.self.inside.reservations c.add_all_zeroed.result c.self.inside.pages c.add_all_zeroed.new.pages c.args.first c.args.count c.add_all_zeroed.ensures.ok)
+    subst (λ v. OnOk c.add_zeroed.result (memory_in g.S.SwapSlot.content c.add_zeroed.new.self c.self.inside.reservations ≡ with_zeroed c.args.first c.args.count (memory_of g.S.SwapSlot.content v))) c.self.view_is
+    (memory_grown_with g.S.SwapSlot.content c.self.inside.reservations c.add_zeroed.result c.self.inside.pages c.add_zeroed.new.self c.args.first c.args.count c.add_zeroed.ensures.ok)

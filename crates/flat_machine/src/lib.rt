@@ -3,6 +3,7 @@
 
 mod by_turns;
 mod end;
+mod halt;
 mod laws;
 mod opening;
 mod plain_run;
@@ -14,6 +15,7 @@ mod stepping;
 
 pub use by_turns::OutOfMemory;
 pub use end::{End, KillCause};
+pub use halt::Halt;
 pub use laws::{opening_has_pages, schedule_is_full, turns_are_a_schedule};
 pub use opening::{STACK_PAGES, STACK_START, first_break, first_registers};
 pub use process::FlatProcess;

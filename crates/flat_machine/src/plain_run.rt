@@ -4,17 +4,9 @@ ghost use Rattle.rv_exec.specs.Registers.{with_pc};
 ghost use Rattle.rv_exec.specs.Line.{line};
 ghost use Rattle.flat_machine.specs.PlainRun.{plain_run, StopsAs};
 
+use crate::halt::Halt;
 use page_memory::FlatMemory;
 use rv_exec::{Cause, Outcome, Regs, execute_at};
-
-/// Where a hart's instructions stopped.
-#[derive(Clone, Copy)]
-pub(crate) struct Halt {
-    /// How many of those that were allowed are left: the loop counts these.
-    pub left: u64,
-    /// What the next one came to, where some are left: it is still to be ended.
-    pub last: Outcome,
-}
 
 /// Runs the next instructions of the hart of a number, up to so many, until one calls or traps, and tells where they stopped.
 /// The one that calls or traps has changed nothing.
@@ -45,52 +37,11 @@ fn run_at_hand(hart: u32, pc: &mut u32, regs: &mut Regs, memory: &mut FlatMemory
     while left != 0 {
         match execute_at(hart, pc, regs, memory) {
             Outcome::Done => left -= 1,
-            Outcome::Ecall => return at_call(left),
-            Outcome::Trap(Cause::IllegalInstruction, word) => return at_illegal(left, word),
-            Outcome::Trap(cause, value) => return at_trap(left, cause, value),
+            Outcome::Ecall => return Halt::at_call(left),
+            Outcome::Trap(Cause::IllegalInstruction, word) => return Halt::at_illegal(left, word),
+            Outcome::Trap(cause, value) => return Halt::at_trap(left, cause, value),
             Outcome::Absent(_) => unreachable!(),
         }
     }
-    Halt {
-        left: 0,
-        last: Outcome::Done,
-    }
-}
-
-/// Where a hart stopped whose next instruction calls.
-///
-/// It and the one below are made out of the loop's way, of what an outcome is made of.
-#[cold]
-#[inline(never)]
-fn at_call(left: u64) -> Halt
-    ensures { result ≡ record { left = left; last = Outcome.Ecall } }
-{
-    Halt {
-        left,
-        last: Outcome::Ecall,
-    }
-}
-
-/// Where a hart stopped whose next word is outside the table.
-#[cold]
-#[inline(never)]
-fn at_illegal(left: u64, word: u32) -> Halt
-    ensures { result ≡ record { left = left; last = Outcome.Trap Cause.IllegalInstruction word } }
-{
-    Halt {
-        left,
-        last: Outcome::Trap(Cause::IllegalInstruction, word),
-    }
-}
-
-/// Where a hart stopped whose next instruction traps.
-#[cold]
-#[inline(never)]
-fn at_trap(left: u64, cause: Cause, value: u32) -> Halt
-    ensures { result ≡ record { left = left; last = Outcome.Trap cause value } }
-{
-    Halt {
-        left,
-        last: Outcome::Trap(cause, value),
-    }
+    Halt::after_all()
 }

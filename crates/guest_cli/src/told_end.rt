@@ -5,6 +5,7 @@ ghost use Rattle.rv_exec.specs.Causes.{cause_number};
 ghost use Rattle.guest_cli.specs.GuestStatus.{guest_status};
 
 use flat_machine::{End, KillCause};
+use process_text::Ending;
 use rv_exec::Cause;
 use std::io::Write;
 
@@ -22,26 +23,13 @@ pub fn status_of(end: End) -> u8
 
 /// Tells how a guest ended that did not end itself. Where that can't be written, the status alone tells it.
 pub(crate) fn tell_end<E: Write>(end: End, steps: u64, err: &mut E) {
-    match end {
+    let words = match end {
         End::Exited(_) => return,
-        End::Trapped {
-            hart,
-            cause,
-            pc,
-            value,
-        } => {
-            let number = cause.number();
-            let words = words_of_trap(cause);
-            let _ = writeln!(
-                err,
-                "guest: trap {number} hart {hart} pc 0x{pc:08X} value 0x{value:08X} after {steps} steps: {words}"
-            );
-        }
-        End::Killed(cause) => {
-            let words = words_of_kill(cause);
-            let _ = writeln!(err, "guest: killed {cause} after {steps} steps: {words}");
-        }
-    }
+        End::Trapped { cause, .. } => words_of_trap(cause),
+        End::Killed(cause) => words_of_kill(cause),
+    };
+    let end = Ending(end);
+    let _ = writeln!(err, "guest: {end} after {steps} steps: {words}");
     let _ = err.flush();
 }
 

@@ -1,10 +1,10 @@
 //! What an instruction does to memory and to registers.
 
 ghost use Rattle.std.specs.Prelude.{◌≡◌};
-ghost use Rattle.guest_steps.specs.Accesses.{accessed, bytes_loaded, bytes_stored, destination, word_at};
+ghost use Rattle.guest_steps.specs.Accesses.{accessed, destination, word_at};
 
-use rv_exec::Regs;
-use rv_isa::{Insn, LoadKind, Reg, StoreKind};
+use rv_exec::{Regs, width_of_load, width_of_store};
+use rv_isa::{Insn, Reg};
 
 /// A load or a store: so many bytes from an address on.
 #[derive(Clone, Copy, Debug, PartialEq, Eq)]
@@ -26,7 +26,7 @@ pub fn access_of(regs: &Regs, insn: Insn) -> Option<DataAccess>
             offset,
         } => Some(DataAccess {
             address: regs.address_at(rs1, offset),
-            bytes: bytes_of_load(kind),
+            bytes: width_of_load(kind).bytes(),
             is_store: false,
         }),
         Insn::Store {
@@ -36,7 +36,7 @@ pub fn access_of(regs: &Regs, insn: Insn) -> Option<DataAccess>
             offset,
         } => Some(DataAccess {
             address: regs.address_at(rs1, offset),
-            bytes: bytes_of_store(kind),
+            bytes: width_of_store(kind).bytes(),
             is_store: true,
         }),
         Insn::Amo {
@@ -96,27 +96,5 @@ fn word_at(regs: &Regs, rs1: Reg, is_store: bool) -> DataAccess
         address: regs.read(rs1),
         bytes: 4,
         is_store,
-    }
-}
-
-/// How many bytes a load reads.
-fn bytes_of_load(kind: LoadKind) -> u32
-    ensures { result ≡ bytes_loaded kind }
-{
-    match kind {
-        LoadKind::Lb | LoadKind::Lbu => 1,
-        LoadKind::Lh | LoadKind::Lhu => 2,
-        LoadKind::Lw => 4,
-    }
-}
-
-/// How many bytes a store writes.
-fn bytes_of_store(kind: StoreKind) -> u32
-    ensures { result ≡ bytes_stored kind }
-{
-    match kind {
-        StoreKind::Sb => 1,
-        StoreKind::Sh => 2,
-        StoreKind::Sw => 4,
     }
 }

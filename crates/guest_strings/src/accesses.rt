@@ -1,13 +1,13 @@
 //! Accesses to memory: the page of each, where memory allows it.
-ghost use Rattle.std.specs.Prelude.{◌≡◌, ◌<◌, is_ok};
+ghost use Rattle.std.specs.Prelude.{◌≡◌, is_ok};
 ghost use Rattle.page_memory.specs.Words.{bytes_in};
 ghost use Rattle.page_memory.specs.Pages.{usable};
 ghost use Rattle.page_memory.specs.declared.words.Access.{Access};
-ghost use Rattle.rv_exec.specs.Access.{load_width, store_width};
 ghost use Rattle.rv_exec.specs.Uses.{load_pages, store_pages, amo_pages};
 ghost use Rattle.guest_strings.specs.Told.{listed, page_where};
 
-use page_memory::{FlatMemory, page_of};
+use page_memory::{FlatMemory, Width, page_of};
+use rv_exec::{width_of_load, width_of_store};
 use rv_isa::{AmoKind, LoadKind, StoreKind};
 
 /// Whether the page of an address may be loaded from.
@@ -26,12 +26,11 @@ pub(crate) fn may_store(memory: &FlatMemory, address: u32) -> bool
     memory.load_to_replace(address - address % 4).is_ok()
 }
 
-/// The page of an access of so many bytes, where it is aligned and the page has the right.
-pub(crate) fn page_where(may_use: bool, bytes: u32, address: u32) -> Option<u32>
-    requires { 0 < bytes }
-    ensures { listed result ≡ page_where may_use bytes address }
+/// The page of an access, where it is aligned and the page has the right.
+pub(crate) fn page_where(may_use: bool, width: Width, address: u32) -> Option<u32>
+    ensures { listed result ≡ page_where may_use (bytes_in width) address }
 {
-    if address % bytes != 0 {
+    if address % width.bytes() != 0 {
         return None;
     }
     if may_use {
@@ -46,7 +45,7 @@ pub(crate) fn page_where(may_use: bool, bytes: u32, address: u32) -> Option<u32>
 pub(crate) fn page_of_load(memory: &FlatMemory, kind: LoadKind, address: u32) -> Option<u32>
     ensures { listed result ≡ load_pages memory.now kind address }
 {
-    page_where(may_load(memory, address), bytes_of_load(kind), address)
+    page_where(may_load(memory, address), width_of_load(kind), address)
 }
 
 /// The page of a store, whatever the word.
@@ -59,7 +58,7 @@ pub(crate) fn page_of_store(
 ) -> Option<u32>
     ensures { listed result ≡ store_pages memory.now kind address word }
 {
-    page_where(may_store(memory, address), bytes_of_store(kind), address)
+    page_where(may_store(memory, address), width_of_store(kind), address)
 }
 
 /// The page of an atomic memory operation, whatever the operation.
@@ -72,29 +71,5 @@ pub(crate) fn page_of_amo(
 ) -> Option<u32>
     ensures { listed result ≡ amo_pages memory.now kind address operand }
 {
-    page_where(may_store(memory, address), 4, address)
-}
-
-/// How many bytes a load reads.
-fn bytes_of_load(kind: LoadKind) -> u32
-    ensures bytes { result ≡ bytes_in (load_width kind) }
-    ensures some { 0 < result }
-{
-    match kind {
-        LoadKind::Lb | LoadKind::Lbu => 1,
-        LoadKind::Lh | LoadKind::Lhu => 2,
-        LoadKind::Lw => 4,
-    }
-}
-
-/// How many bytes a store writes.
-fn bytes_of_store(kind: StoreKind) -> u32
-    ensures bytes { result ≡ bytes_in (store_width kind) }
-    ensures some { 0 < result }
-{
-    match kind {
-        StoreKind::Sb => 1,
-        StoreKind::Sh => 2,
-        StoreKind::Sw => 4,
-    }
+    page_where(may_store(memory, address), Width::Word, address)
 }

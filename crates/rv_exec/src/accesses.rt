@@ -253,7 +253,7 @@ fn code_of(is_stored: bool) -> u32
 
 /// How much a load reads.
 #[inline]
-fn width_of_load(kind: LoadKind) -> Width
+pub fn width_of_load(kind: LoadKind) -> Width
     ensures { result ≡ load_width kind }
 {
     match kind {
@@ -265,7 +265,7 @@ fn width_of_load(kind: LoadKind) -> Width
 
 /// How much a store writes.
 #[inline]
-fn width_of_store(kind: StoreKind) -> Width
+pub fn width_of_store(kind: StoreKind) -> Width
     ensures { result ≡ store_width kind }
 {
     match kind {

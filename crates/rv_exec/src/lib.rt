@@ -18,6 +18,7 @@ mod operations;
 mod outcome;
 mod regs;
 
+pub use accesses::{width_of_load, width_of_store};
 pub use amo::amo_word;
 pub use bus::{Bus, BusError};
 pub use cause::Cause;

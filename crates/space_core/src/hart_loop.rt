@@ -10,20 +10,12 @@ ghost use Rattle.space_core.specs.HartLoop.{RunsTo, RunsUntil, HartRuns};
 ghost use Rattle.space_core.specs.RunningValue.{with_memory};
 
 use crate::running::Running;
+use flat_machine::Halt;
 use paged_memory::{HartMemory, Opening, PagedMemory};
 use rv_exec::{Cause, Outcome, Regs, execute_at};
 use std::marker::Brand;
 use std::sync::ledger::Ledger;
 use swap_slots::SwapSlot;
-
-/// Where a hart's instructions stopped.
-#[derive(Clone, Copy)]
-struct Halt {
-    /// How many of those that were allowed are left: the loop counts these.
-    left: u32,
-    /// What the next one came to, where some are left: it is still to be ended.
-    last: Outcome,
-}
 
 /// How far a hart came by its instructions.
 #[derive(Clone, Copy)]
@@ -59,7 +51,7 @@ fn run_each<L: Ledger, S: SwapSlot>(
     regs: &mut Regs,
     memory: &mut PagedMemory<L, S>,
     hart: u32,
-    most: u32,
+    most: u64,
 ) -> Halt
     requires started { hart < harts_in memory.old }
     ensures within { result.left ≤ most }
@@ -80,7 +72,7 @@ fn run_at_hand<L: Ledger, S: SwapSlot>(
     regs: &mut Regs,
     memory: &mut PagedMemory<L, S>,
     hart: u32,
-    most: u32,
+    most: u64,
 ) -> Halt
     requires started { hart < harts_in memory.old }
     ensures within { result.left ≤ most }
@@ -92,66 +84,13 @@ fn run_at_hand<L: Ledger, S: SwapSlot>(
     while left != 0 {
         match run_one::<L, S, Brand>(pc, regs, memory, hart) {
             Outcome::Done => left -= 1,
-            Outcome::Ecall => return at_call(left),
-            Outcome::Trap(Cause::IllegalInstruction, word) => return at_illegal(left, word),
-            Outcome::Trap(cause, value) => return at_trap(left, cause, value),
-            Outcome::Absent(page) => return at_absent(left, page),
+            Outcome::Ecall => return Halt::at_call(left),
+            Outcome::Trap(Cause::IllegalInstruction, word) => return Halt::at_illegal(left, word),
+            Outcome::Trap(cause, value) => return Halt::at_trap(left, cause, value),
+            Outcome::Absent(page) => return Halt::at_absent(left, page),
         }
     }
-    Halt {
-        left: 0,
-        last: Outcome::Done,
-    }
-}
-
-/// Where a hart stopped whose next instruction calls.
-///
-/// It and the two below are made out of the loop's way, of what an outcome is made of.
-#[cold]
-#[inline(never)]
-fn at_call(left: u32) -> Halt
-    ensures { result ≡ record { left = left; last = Outcome.Ecall } }
-{
-    Halt {
-        left,
-        last: Outcome::Ecall,
-    }
-}
-
-/// Where a hart stopped whose next word is outside the table.
-#[cold]
-#[inline(never)]
-fn at_illegal(left: u32, word: u32) -> Halt
-    ensures { result ≡ record { left = left; last = Outcome.Trap Cause.IllegalInstruction word } }
-{
-    Halt {
-        left,
-        last: Outcome::Trap(Cause::IllegalInstruction, word),
-    }
-}
-
-/// Where a hart stopped whose next instruction traps.
-#[cold]
-#[inline(never)]
-fn at_trap(left: u32, cause: Cause, value: u32) -> Halt
-    ensures { result ≡ record { left = left; last = Outcome.Trap cause value } }
-{
-    Halt {
-        left,
-        last: Outcome::Trap(cause, value),
-    }
-}
-
-/// Where a hart stopped whose next instruction uses an absent page.
-#[cold]
-#[inline(never)]
-fn at_absent(left: u32, page: u32) -> Halt
-    ensures { result ≡ record { left = left; last = Outcome.Absent page } }
-{
-    Halt {
-        left,
-        last: Outcome::Absent(page),
-    }
+    Halt::after_all()
 }
 
 impl Running {
@@ -172,9 +111,9 @@ impl Running {
         ensures harts { harts_in memory.new ≡ harts_in memory.old }
     {
         let regs = &mut self.harts[hart as usize];
-        let halt = run_each(regs, memory, hart, most);
+        let halt = run_each(regs, memory, hart, u64::from(most));
         Course {
-            done: most - halt.left,
+            done: most - halt.left as u32,
             last: halt.last,
         }
     }

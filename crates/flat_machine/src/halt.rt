@@ -1,0 +1,77 @@
+//! Where the inner loop of a hart stopped.
+
+ghost use Rattle.std.specs.Prelude.{◌≡◌};
+
+use rv_exec::{Cause, Outcome};
+
+/// Where a hart's instructions stopped.
+#[derive(Clone, Copy)]
+pub struct Halt {
+    /// How many of those that were allowed are left: the loop counts these.
+    pub left: u64,
+    /// What the next one came to, where some are left: it is still to be ended.
+    pub last: Outcome,
+}
+
+/// Those before the last one are made out of the loop's way, of what an outcome is made of.
+impl Halt {
+    /// The next instruction calls.
+    #[cold]
+    #[inline(never)]
+    pub fn at_call(left: u64) -> Halt
+        ensures { result ≡ record { left = left; last = Outcome.Ecall } }
+    {
+        Halt {
+            left,
+            last: Outcome::Ecall,
+        }
+    }
+
+    /// The next word is outside the table.
+    #[cold]
+    #[inline(never)]
+    pub fn at_illegal(left: u64, word: u32) -> Halt
+        ensures { result ≡
+            record { left = left; last = Outcome.Trap Cause.IllegalInstruction word } }
+    {
+        Halt {
+            left,
+            last: Outcome::Trap(Cause::IllegalInstruction, word),
+        }
+    }
+
+    /// The next instruction traps.
+    #[cold]
+    #[inline(never)]
+    pub fn at_trap(left: u64, cause: Cause, value: u32) -> Halt
+        ensures { result ≡ record { left = left; last = Outcome.Trap cause value } }
+    {
+        Halt {
+            left,
+            last: Outcome::Trap(cause, value),
+        }
+    }
+
+    /// The next instruction uses a page that is absent.
+    #[cold]
+    #[inline(never)]
+    pub fn at_absent(left: u64, page: u32) -> Halt
+        ensures { result ≡ record { left = left; last = Outcome.Absent page } }
+    {
+        Halt {
+            left,
+            last: Outcome::Absent(page),
+        }
+    }
+
+    /// All that were allowed are done.
+    #[inline(always)]
+    pub fn after_all() -> Halt
+        ensures { result ≡ record { left = 0; last = Outcome.Done } }
+    {
+        Halt {
+            left: 0,
+            last: Outcome::Done,
+        }
+    }
+}

@@ -1,41 +1,17 @@
 -- The optimum with every number of frames at once, along a string: proofs.
-use Rattle.std.specs.Prelude.{◌≡◌, ℕ, zero, suc, ◌+◌, ◌-◌, ◌<◌, ◌≤◌, Bool, true, false, cond, nat_lt, List, [], ◌∷◌, ◌++◌, take, drop, length, slice_index_or, refl}
+use Rattle.std.specs.Prelude.{◌≡◌, ℕ, zero, suc, ◌+◌, ◌-◌, ◌<◌, ◌≤◌, Bool, true, false, cond, nat_lt, List, [], ◌∷◌, ◌++◌, take, length, slice_index_or, refl}
 use Rattle.std.proofs.Common.{arith, sym, ap, subst, ◌∙◌}
 use Rattle.clock_policy.specs.declared.key.Key.{Key}
-use Rattle.page_policies.specs.Optimal.{next_use, optimal_from, optimal_misses}
+use Rattle.page_policies.specs.Optimal.{optimal_misses}
 use Rattle.page_policies.specs.NextUses.{next_uses}
 use Rattle.page_policies.specs.DemandLaws.{one}
 use Rattle.whole_strings.specs.NextPlaces.{place}
-use Rattle.whole_strings.specs.PlaceStepLaws.{Stands, Steps, Served, Uncovered, uncover, served_first, served_last}
+use Rattle.whole_strings.specs.PlaceStepLaws.{Served, served_first, served_on, served_last}
 use Rattle.whole_strings.specs.LruDepths.{hits_within}
 use Rattle.whole_strings.specs.LruDepthLaws.{noted, noted_within, new_within, referred, Few, few_noted, few_new, length_noted, length_new}
 use Rattle.whole_strings.specs.OptimumStack.{place_depth, restacked}
 use Rattle.whole_strings.specs.CarriedLaws.{less, most, no, yes_less, length_restacked}
 use Rattle.whole_strings.specs.OptimumStepLaws.{step_hit, step_miss}
-
--- a reference with m frames, from what it does to the pages in them
-served_on : (m at count more next d : ℕ) (keys new : List ℕ) (string : List Key) (hit : Bool) → at < length string → next ≡ place (length string) at (slice_index_or (next_uses string) at d)
-    → ((p : Key) (ps s : List Key) → length string ≡ at + suc (length ps) → next ≡ place (length string) at (next_use p ps) → Stands m at (length string) keys (p ∷ ps) s → Steps m at (length string) p ps new s hit)
-    → more ≡ count + cond hit 0 1 → Served m at count keys string → Served m (at + 1) more new string
-served_on m at count more next d keys new string hit inside to goes counted served =
-    let found : Uncovered string at d = uncover string at d inside in
-    let now : Stands m at (length string) keys (found.page ∷ found.rest) served.pages = subst (λ (l : List Key). Stands m at (length string) keys l served.pages) found.now served.stands in
-    let place_is : next ≡ place (length string) at (next_use found.page found.rest) = to ∙ ap (λ (k : ℕ). place (length string) at k) found.ahead in
-    let after : Steps m at (length string) found.page found.rest new served.pages hit = goes found.page found.rest served.pages found.size place_is now in
-    let left : found.rest ≡ drop (at + 1) string = sym found.later ∙ ap (λ (k : ℕ). drop k string) (one_on at) in
-    let before : count + optimal_from m served.pages (found.page ∷ found.rest) ≡ optimal_misses m string = subst (λ (l : List Key). count + optimal_from m served.pages l ≡ optimal_misses m string) found.now served.whole in
-    let missed : cond hit 0 1 + optimal_from m after.pages found.rest ≡ optimal_from m served.pages (found.page ∷ found.rest) = after.whole in
-    record {
-      pages = after.pages;
-      stands = subst (λ (l : List Key). Stands m (at + 1) (length string) new l after.pages) left after.stands;
-      whole = subst (λ (l : List Key). more + optimal_from m after.pages l ≡ optimal_misses m string) left (sum count more (cond hit 0 1) (optimal_from m after.pages found.rest) (optimal_from m served.pages (found.page ∷ found.rest)) (optimal_misses m string) counted before missed);
-    }
-  where
-    one_on : (a : ℕ) → suc a ≡ a + 1
-    one_on a = omega arith
-
-    sum : (c k b l o w : ℕ) → k ≡ c + b → c + o ≡ w → b + l ≡ o → k + l ≡ w
-    sum c k b l o w h g e = omega (arith, h, g, e)
 
 -- Before the reference at `at`: with each number of frames the first places of the stack are those of the optimum's pages, and so many
 -- hit as the first counts make together.

@@ -300,15 +300,16 @@ served_first m keys string is = rw is (record {
   whole = omega arith;
 })
 
-pub served_next : (m at count more : ℕ) (keys new uses : List ℕ) (string : List Key) (hit : Bool) (d : ℕ) → 1 ≤ m → at < length string → uses ≡ next_uses string
-    → Refers m at (place (length string) at (slice_index_or uses at d)) keys new hit → more ≡ count + cond hit 0 1 → Served m at count keys string → Served m (at + 1) more new string
-served_next m at count more keys new uses string hit d some inside is refers counted served =
+-- a reference with m frames, from what it does to the pages in them
+pub served_on : (m at count more next d : ℕ) (keys new : List ℕ) (string : List Key) (hit : Bool) → at < length string → next ≡ place (length string) at (slice_index_or (next_uses string) at d)
+    → ((p : Key) (ps s : List Key) → length string ≡ at + suc (length ps) → next ≡ place (length string) at (next_use p ps) → Stands m at (length string) keys (p ∷ ps) s → Steps m at (length string) p ps new s hit)
+    → more ≡ count + cond hit 0 1 → Served m at count keys string → Served m (at + 1) more new string
+served_on m at count more next d keys new string hit inside to goes counted served =
     let found : Uncovered string at d = uncover string at d inside in
-    let ahead : slice_index_or uses at d ≡ next_use found.page found.rest = ap (λ (l : List ℕ). slice_index_or l at d) is ∙ found.ahead in
     let now : Stands m at (length string) keys (found.page ∷ found.rest) served.pages = subst (λ (l : List Key). Stands m at (length string) keys l served.pages) found.now served.stands in
-    let went : Refers m at (place (length string) at (next_use found.page found.rest)) keys new hit = subst (λ (k : ℕ). Refers m at (place (length string) at k) keys new hit) ahead refers in
-    let after : Steps m at (length string) found.page found.rest new served.pages hit = step m at (length string) found.page found.rest keys new served.pages hit some found.size now went in
-    let left : found.rest ≡ drop (at + 1) string = sym found.later ∙ ap (λ (k : ℕ). drop k string) (next at) in
+    let place_is : next ≡ place (length string) at (next_use found.page found.rest) = to ∙ ap (λ (k : ℕ). place (length string) at k) found.ahead in
+    let after : Steps m at (length string) found.page found.rest new served.pages hit = goes found.page found.rest served.pages found.size place_is now in
+    let left : found.rest ≡ drop (at + 1) string = sym found.later ∙ ap (λ (k : ℕ). drop k string) (one_on at) in
     let before : count + optimal_from m served.pages (found.page ∷ found.rest) ≡ optimal_misses m string = subst (λ (l : List Key). count + optimal_from m served.pages l ≡ optimal_misses m string) found.now served.whole in
     let missed : cond hit 0 1 + optimal_from m after.pages found.rest ≡ optimal_from m served.pages (found.page ∷ found.rest) = after.whole in
     record {
@@ -317,11 +318,19 @@ served_next m at count more keys new uses string hit d some inside is refers cou
       whole = subst (λ (l : List Key). more + optimal_from m after.pages l ≡ optimal_misses m string) left (sum count more (cond hit 0 1) (optimal_from m after.pages found.rest) (optimal_from m served.pages (found.page ∷ found.rest)) (optimal_misses m string) counted before missed);
     }
   where
-    next : (a : ℕ) → suc a ≡ a + 1
-    next a = omega arith
+    one_on : (a : ℕ) → suc a ≡ a + 1
+    one_on a = omega arith
 
     sum : (c k b l o w : ℕ) → k ≡ c + b → c + o ≡ w → b + l ≡ o → k + l ≡ w
     sum c k b l o w h g e = omega (arith, h, g, e)
+
+pub served_next : (m at count more : ℕ) (keys new uses : List ℕ) (string : List Key) (hit : Bool) (d : ℕ) → 1 ≤ m → at < length string → uses ≡ next_uses string
+    → Refers m at (place (length string) at (slice_index_or uses at d)) keys new hit → more ≡ count + cond hit 0 1 → Served m at count keys string → Served m (at + 1) more new string
+served_next m at count more keys new uses string hit d some inside is refers counted served =
+    let to : place (length string) at (slice_index_or uses at d) ≡ place (length string) at (slice_index_or (next_uses string) at d) = ap (λ (l : List ℕ). place (length string) at (slice_index_or l at d)) is in
+    served_on m at count more (place (length string) at (slice_index_or uses at d)) d keys new string hit inside to
+    (λ p ps s n_is to_is stands. step m at (length string) p ps keys new s hit some n_is stands (subst (λ (k : ℕ). Refers m at k keys new hit) to_is refers))
+    counted served
 
 pub served_last : (m at count : ℕ) (keys : List ℕ) (string : List Key) → length string ≤ at → Served m at count keys string → count ≡ optimal_misses m string
 served_last m at count keys string past served =

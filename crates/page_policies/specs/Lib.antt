@@ -1,5 +1,6 @@
 pub mod HitsAndMisses
 pub mod PolicyFrames
+pub mod NumberLaws
 pub mod Strings
 pub mod Queues
 pub mod SecondChance

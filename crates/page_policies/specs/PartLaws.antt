@@ -1,11 +1,10 @@
 -- Pages in several lists, counted: what a policy that keeps more than one list of pages is a way to serve a string by.
-use Rattle.std.specs.Prelude.{◌≡◌, ℕ, zero, suc, ◌+◌, ◌-◌, ◌≤◌, Bool, true, false, cond, List, [], ◌∷◌, ◌++◌, length, take, slice_get, Option, Some, refl}
+use Rattle.std.specs.Prelude.{◌≡◌, ℕ, zero, suc, ◌+◌, ◌-◌, ◌≤◌, Bool, true, false, cond, List, [], ◌∷◌, ◌++◌, length, take, slice_get, Option, Some, None, refl}
 use Rattle.std.proofs.Common.{arith, sym, ap, subst, ◌∙◌}
-use Rattle.std.proofs.lemmas.Bool.Decides.{nat_tests}
 use Rattle.clock_policy.specs.declared.key.Key.{Key}
 use Rattle.page_policies.specs.Strings.{is_page, holds, without, misses}
 use Rattle.page_policies.specs.Ordered.{to_front, last_of, but_last}
-use Rattle.page_policies.specs.QueueLaws.{same, absent}
+use Rattle.page_policies.specs.QueueLaws.{itself, same, absent}
 use Rattle.page_policies.specs.Demand.{number, MayLeave, Plays}
 use Rattle.page_policies.specs.CountLaws.{none_number}
 use Rattle.page_policies.specs.PlayedLaws.{here, taken_number}
@@ -21,6 +20,26 @@ holds_append p (q ∷ qs) b = elim (is_page p q) as (λ t. cond t true (holds p 
 pub length_parts : (a b : List Key) → length (a ++ b) ≡ length a + length b
 length_parts [] b = omega arith
 length_parts (q ∷ qs) b = let later : length (qs ++ b) ≡ length qs + length b = length_parts qs b in omega (arith, later)
+
+pub there_first : (p : Key) (a b : List Key) → holds p a ≡ true → holds p (a ++ b) ≡ true
+there_first p a b h = holds_append p a b ∙ ap (λ (t : Bool). cond t true (holds p b)) h
+
+pub there_second : (p : Key) (a b : List Key) → holds p b ≡ true → holds p (a ++ b) ≡ true
+there_second p a b h = holds_append p a b ∙ ap (λ (t : Bool). cond (holds p a) true t) h ∙ either (holds p a)
+  where
+    either : (t : Bool) → cond t true true ≡ true
+    either true = refl
+    either false = refl
+
+-- a page that is counted is there
+pub there_counted : (p : Key) (s : List Key) → 1 ≤ number (is_page p) s → holds p s ≡ true
+there_counted p s some = elim (holds p s) as (λ b. holds p s ≡ b → b ≡ true) [
+  | true ↦ λ h. refl
+  | false ↦ λ h. absurd (let none : number (is_page p) s ≡ 0 = none_number p s h in omega (arith, some, none))
+] refl
+
+pub counts_itself : (p : Key) → ◌≡◌ {A = ℕ} (cond (is_page p p) 1 0) 1
+counts_itself p = ap (λ (b : Bool). let n : ℕ = cond b 1 0 in n) (itself p)
 
 -- a page that is taken out
 
@@ -78,17 +97,19 @@ last_split test (q ∷ qs) p is = let e : suc (length qs) - 1 ≡ length qs = om
 pub last_there : (s : List Key) (p : Key) → last_of s ≡ Some p → holds p s ≡ true
 last_there s p is =
     let e : number (is_page p) (but_last s) + cond (is_page p p) 1 0 ≡ number (is_page p) s = last_split (is_page p) s p is in
-    elim (holds p s) as (λ b. holds p s ≡ b → b ≡ true) [
-      | true ↦ λ h. refl
-      | false ↦ λ h. absurd (let none : number (is_page p) s ≡ 0 = none_number p s h in counted (is_page p p) (number (is_page p) (but_last s)) (number (is_page p) s) (itself p) e none)
-    ] refl
-  where
-    itself : (p : Key) → is_page p p ≡ true
-    itself p = grind (arith, nat_tests)
+    let one : ◌≡◌ {A = ℕ} (cond (is_page p p) 1 0) 1 = counts_itself p in there_counted p s (omega (arith, e, one))
 
-    counted : (b : Bool) (n k : ℕ) → b ≡ true → n + cond b 1 0 ≡ k → k ≡ 0 → ⊥
-    counted true n k h e none = omega (arith, e, none)
-    counted false n k h e none = cc
+pub some_last : (s : List Key) (p : Key) → last_of s ≡ Some p → 1 ≤ length s
+some_last [] p is = cc
+some_last (q ∷ qs) p is = omega arith
+
+pub none_last : (s : List Key) → last_of s ≡ None → length s ≡ 0
+none_last [] is = refl
+none_last (q ∷ qs) is = let e : suc (length qs) - 1 ≡ length qs = omega arith in absurd (some q qs (sym (ap (slice_get (q ∷ qs)) e) ∙ is))
+  where
+    some : (q : Key) (qs : List Key) → slice_get (q ∷ qs) (length qs) ≡ None → ⊥
+    some q [] is = cc
+    some q (r ∷ rs) is = some r rs is
 
 -- The page comes to the front: it is there, and nothing else is that was not.
 

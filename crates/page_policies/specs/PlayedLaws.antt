@@ -1,11 +1,10 @@
 -- The optimum, FIFO and LRU are ways to serve a string: proofs.
 use Rattle.std.specs.Prelude.{◌≡◌, ℕ, zero, suc, ◌+◌, ◌≤◌, Bool, true, false, cond, List, [], ◌∷◌, length, take, refl}
 use Rattle.std.proofs.Common.{arith, ap}
-use Rattle.std.proofs.lemmas.Bool.Decides.{nat_tests}
 use Rattle.clock_policy.specs.declared.key.Key.{Key}
 use Rattle.page_policies.specs.Strings.{is_page, holds, without, misses}
 use Rattle.page_policies.specs.Queues.{fifo, lru, fifo_misses, lru_misses}
-use Rattle.page_policies.specs.QueueLaws.{same}
+use Rattle.page_policies.specs.QueueLaws.{itself, same}
 use Rattle.page_policies.specs.Optimal.{room_for, optimal_from, optimal_misses}
 use Rattle.page_policies.specs.Demand.{number, MayLeave, Plays, IsPlayed}
 use Rattle.page_policies.specs.CountLaws.{Room, room_is}
@@ -13,9 +12,6 @@ use Rattle.page_policies.specs.DemandLaws.{room_fewer}
 
 pub here : (p : Key) (s : List Key) → holds p (p ∷ s) ≡ true
 here p s = ap (λ (b : Bool). cond b true (holds p s)) (itself p)
-  where
-    itself : (p : Key) → is_page p p ≡ true
-    itself p = grind (arith, nat_tests)
 
 -- a hit that changes nothing, and a miss that lets pages go
 pub stays : (m : ℕ) (p : Key) (s : List Key) → holds p s ≡ true → length s ≤ m → MayLeave m p s s

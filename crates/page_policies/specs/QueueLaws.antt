@@ -12,6 +12,9 @@ use Rattle.lru.specs.LruCache.{LruCache, lru_cache, promoted, put_entries}
 use Rattle.page_policies.specs.Strings.{is_page, holds, without, misses}
 use Rattle.page_policies.specs.Queues.{fifo, lru}
 
+pub itself : (p : Key) → is_page p p ≡ true
+itself p = grind (arith, nat_tests)
+
 pub same : (p q : Key) → is_page p q ≡ true → p ≡ q
 same p q h = one_key p q (parts h).0 (parts h).1
   where

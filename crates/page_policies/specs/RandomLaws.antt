@@ -3,14 +3,14 @@ use Rattle.std.specs.Prelude.{◌≡◌, ℕ, zero, suc, ◌+◌, ◌-◌, ◌%�
 use Rattle.std.specs.List.{list_any}
 use Rattle.indexmap.specs.IndexSet.{insert_key}
 use Rattle.std.proofs.Common.{arith, sym, ap, ◌∙◌}
-use Rattle.std.proofs.lemmas.Bool.Decides.{nat_tests}
 use Rattle.rand_pcg.specs.Lcg.{Lcg}
 use Rattle.rand_pcg.specs.Pcg.{pcg32}
 use Rattle.clock_policy.specs.declared.key.Key.{Key}
 use Rattle.page_policies.specs.Strings.{is_page, holds}
 use Rattle.page_policies.specs.Ordered.{last_of, but_last}
 use Rattle.page_policies.specs.Demand.{number, IsPlayed}
-use Rattle.page_policies.specs.PartLaws.{number_append, holds_append, length_parts, length_but_last, last_split, hit_leaves, miss_leaves, Serves, served_plays}
+use Rattle.page_policies.specs.NumberLaws.{less, most}
+use Rattle.page_policies.specs.PartLaws.{number_append, there_second, length_parts, length_but_last, last_split, hit_leaves, miss_leaves, Serves, served_plays}
 use Rattle.page_policies.specs.PlayedLaws.{here}
 use Rattle.page_policies.specs.CountLaws.{none_number}
 use Rattle.page_policies.specs.DemandLaws.{holds_none}
@@ -123,22 +123,12 @@ room_is m s some few = elim (nat_lt (length s.pages) m) as (λ b. nat_lt (length
       leaves_one m (slice_get s.pages (place_of (pcg32 s.generator).0 (length s.pages))) (place_of (pcg32 s.generator).0 (length s.pages)) s (pcg32 s.generator).1 one few
       (modulo (pcg32 s.generator).0 (length s.pages) one) refl
 ] refl
-  where
-    less : (a b : ℕ) → nat_lt a b ≡ true → a < b
-    less a b h = grind (arith, nat_tests)
-
-    most : (a b : ℕ) → nat_lt a b ≡ false → b ≤ a
-    most a b h = grind (arith, nat_tests)
 
 abbrev frames_of : RandomState → List Key
 frames_of s = s.pages
 
 last_in : (p : Key) (s : List Key) → holds p (s ++ p ∷ []) ≡ true
-last_in p s = holds_append p s (p ∷ []) ∙ ap (λ (t : Bool). cond (holds p s) true t) (here p []) ∙ either (holds p s)
-  where
-    either : (t : Bool) → cond t true true ≡ true
-    either true = refl
-    either false = refl
+last_in p s = there_second p s (p ∷ []) (here p [])
 
 serves : (m : ℕ) → 1 ≤ m → (p : Key) (s : RandomState) → length s.pages ≤ m → Serves m frames_of (λ s. length s.pages ≤ m) in_random p s (random m p s)
 serves m some p s few = elim (holds p s.pages) as (λ b. holds p s.pages ≡ b → Serves m frames_of (λ s. length s.pages ≤ m) in_random p s (cond b s (joined p (room_drawn m s)))) [

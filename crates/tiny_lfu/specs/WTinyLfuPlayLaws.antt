@@ -1,14 +1,13 @@
 -- W-TinyLFU is a way to serve a string: a proof.
-use Rattle.std.specs.Prelude.{◌≡◌, ℕ, zero, suc, ◌+◌, ◌-◌, ◌*◌, ◌/◌, ◌<◌, ◌≤◌, ◌==◌, Bool, true, false, cond, nat_lt, max, List, [], ◌∷◌, ◌++◌, length, take, slice_get, replicate, Option, Some, None, refl}
+use Rattle.std.specs.Prelude.{◌≡◌, ℕ, zero, suc, ◌+◌, ◌-◌, ◌*◌, ◌/◌, ◌<◌, ◌≤◌, ◌==◌, Bool, true, false, cond, nat_lt, max, List, [], ◌∷◌, ◌++◌, length, take, replicate, Option, Some, None, refl}
 use Rattle.std.proofs.Common.{arith, sym, ap, subst, ◌∙◌}
-use Rattle.std.proofs.lemmas.Bool.Decides.{nat_tests}
 use Rattle.clock_policy.specs.declared.key.Key.{Key}
 use Rattle.page_policies.specs.Strings.{is_page, holds, without}
 use Rattle.page_policies.specs.Ordered.{to_front, last_of, but_last}
-use Rattle.page_policies.specs.Demand.{number, MayLeave, IsPlayed}
-use Rattle.page_policies.specs.CountLaws.{none_number}
+use Rattle.page_policies.specs.Demand.{number, IsPlayed}
 use Rattle.page_policies.specs.PlayedLaws.{here}
-use Rattle.page_policies.specs.PartLaws.{number_append, holds_append, length_parts, front_there, number_front, number_moved, number_out, length_front, length_moved, length_out, length_but_last, number_but_last, last_split, hit_leaves, miss_leaves, Serves, served_plays}
+use Rattle.page_policies.specs.NumberLaws.{less, most}
+use Rattle.page_policies.specs.PartLaws.{number_append, holds_append, there_first, there_second, there_counted, counts_itself, length_parts, front_there, number_front, number_moved, number_out, length_front, length_moved, length_out, length_but_last, number_but_last, last_split, none_last, some_last, hit_leaves, miss_leaves, Serves, served_plays}
 use Rattle.tiny_lfu.specs.Sketch.{estimate}
 use Rattle.tiny_lfu.specs.WTinyLfu.{WTinyLfuState, window_frames, main_frames, protected_frames, joined, settled, promoted, window_used, protected_used, used, victim, victim_out, let_in, contested, admitted, window_cut, brought, in_w_tiny_lfu, noted, w_tiny_lfu, w_tiny_lfu_misses}
 
@@ -53,47 +52,6 @@ found p s = by_bits (holds p s.protected) (holds p s.window) (holds p s.probatio
     by_bits false false true = refl
     by_bits false false false = refl
 
-there_first : (p : Key) (a b : List Key) → holds p a ≡ true → holds p (a ++ b) ≡ true
-there_first p a b h = holds_append p a b ∙ ap (λ (t : Bool). cond t true (holds p b)) h
-
-there_second : (p : Key) (a b : List Key) → holds p b ≡ true → holds p (a ++ b) ≡ true
-there_second p a b h = holds_append p a b ∙ ap (λ (t : Bool). cond (holds p a) true t) h ∙ either (holds p a)
-  where
-    either : (t : Bool) → cond t true true ≡ true
-    either true = refl
-    either false = refl
-
-less : (a b : ℕ) → nat_lt a b ≡ true → a < b
-less a b h = grind (arith, nat_tests)
-
-most : (a b : ℕ) → nat_lt a b ≡ false → b ≤ a
-most a b h = grind (arith, nat_tests)
-
--- a page that is counted is there
-there_counted : (p : Key) (s : List Key) → 1 ≤ number (is_page p) s → holds p s ≡ true
-there_counted p s some = elim (holds p s) as (λ b. holds p s ≡ b → b ≡ true) [
-  | true ↦ λ h. refl
-  | false ↦ λ h. absurd (let none : number (is_page p) s ≡ 0 = none_number p s h in omega (arith, some, none))
-] refl
-
-itself : (p : Key) → ◌≡◌ {A = ℕ} (cond (is_page p p) 1 0) 1
-itself p = ap (λ (b : Bool). let n : ℕ = cond b 1 0 in n) (same p)
-  where
-    same : (p : Key) → is_page p p ≡ true
-    same p = grind (arith, nat_tests)
-
-none_last : (l : List Key) → last_of l ≡ None → 1 ≤ length l → ⊥
-none_last l is some = nothing (length l - 1) l is (omega (arith, some))
-  where
-    nothing : (n : ℕ) (l : List Key) → slice_get l n ≡ None → n < length l → ⊥
-    nothing n [] is h = omega (arith, h)
-    nothing zero (q ∷ qs) is h = cc
-    nothing (suc n) (q ∷ qs) is h = nothing n qs is (omega (arith, h))
-
-some_last : (s : List Key) (t : Key) → last_of s ≡ Some t → 1 ≤ length s
-some_last [] t is = cc
-some_last (q ∷ qs) t is = omega arith
-
 -- the frames of the window and those of the main cache
 
 window_some : (m : ℕ) → 1 ≤ window_frames m
@@ -122,7 +80,7 @@ record Settles (s t : WTinyLfuState) : Type 0 where
   kept : (p : Key) → 1 ≤ number (is_page p) s.protected → holds p (t.probation ++ t.protected) ≡ true
 
 settles_out : (s : WTinyLfuState) (o : Option Key) → last_of s.protected ≡ o → 1 ≤ length s.protected → Settles s (record { window = s.window; probation = joined o s.probation; protected = but_last s.protected; sketch = s.sketch })
-settles_out s None is some = absurd (none_last s.protected is some)
+settles_out s None is some = absurd (let e : length s.protected ≡ 0 = none_last s.protected is in omega (arith, e, some))
 settles_out s (Some b) is some =
     let e : length (but_last s.protected) ≡ length s.protected - 1 = length_but_last s.protected in
     let k : length (to_front b s.probation) ≤ length s.probation + 1 = length_front b s.probation in record {
@@ -195,7 +153,7 @@ uses_probation m p s lawful h =
     let f : main (promoted m p s) ≤ length (without p s.probation) + length (to_front p s.protected) = d.few in
     record {
       there = there_second p (promoted m p s).window ((promoted m p s).probation ++ (promoted m p s).protected)
-          (d.kept p (let e : ◌≡◌ {A = ℕ} (cond (is_page p p) 1 0) 1 = itself p in omega (arith, e)));
+          (d.kept p (let e : ◌≡◌ {A = ℕ} (cond (is_page p p) 1 0) 1 = counts_itself p in omega (arith, e)));
       from = λ test.
           let w : number test (promoted m p s).window ≡ number test s.window = ap (number test) d.window in
           let g : main_count test (promoted m p s) ≤ number test (without p s.probation) + number test (to_front p s.protected) = d.fewer test in
@@ -294,10 +252,10 @@ front_stays p l w is two = subst (λ (v : List Key). holds p (but_last v) ≡ tr
     at (suc n) h = here p (take n l)
 
 cuts_last : (m : ℕ) (s : WTinyLfuState) (o : Option Key) → main s ≤ main_frames m → last_of s.window ≡ o → window_frames m < length s.window → Cuts m s (admitted m o (record { window = but_last s.window; probation = s.probation; protected = s.protected; sketch = s.sketch }))
-cuts_last m s None few is more = absurd (none_last s.window is (above (window_frames m) (length s.window) more))
+cuts_last m s None few is more = absurd (let e : length s.window ≡ 0 = none_last s.window is in empty (window_frames m) (length s.window) e more)
   where
-    above : (a b : ℕ) → a < b → 1 ≤ b
-    above a b h = omega (arith, h)
+    empty : (a b : ℕ) → b ≡ 0 → a < b → ⊥
+    empty a b e h = omega (arith, e, h)
 cuts_last m s (Some c) few is more =
     let cut : WTinyLfuState = record { window = but_last s.window; probation = s.probation; protected = s.protected; sketch = s.sketch } in
     let a : Admits m c cut (admitted m (Some c) cut) = admits m c cut few in

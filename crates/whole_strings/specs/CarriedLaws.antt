@@ -3,27 +3,13 @@ use Rattle.std.specs.Prelude.{◌≡◌, ℕ, zero, suc, ◌+◌, ◌-◌, ◌<�
 use Rattle.std.proofs.Common.{arith, sym, ap, ◌∙◌}
 use Rattle.std.proofs.lemmas.Bool.Decides.{nat_tests}
 use Rattle.page_policies.specs.DemandLaws.{one}
+use Rattle.page_policies.specs.NumberLaws.{less, most, yes_less, no_less, next_less}
 use Rattle.whole_strings.specs.NextPlaces.{under, Roomed}
 use Rattle.whole_strings.specs.NextPlaceLaws.{under_few}
 use Rattle.whole_strings.specs.OptimumStack.{nearer, farther, place_depth, carried_down, restacked}
 
-pub less : (a b : ℕ) → nat_lt a b ≡ true → a < b
-less a b h = grind (arith, nat_tests)
-
-pub most : (a b : ℕ) → nat_lt a b ≡ false → b ≤ a
-most a b h = grind (arith, nat_tests)
-
-pub no : (a b : ℕ) → b ≤ a → nat_lt a b ≡ false
-no a b h = grind (arith, nat_tests)
-
-pub yes_less : (a b : ℕ) → a < b → nat_lt a b ≡ true
-yes_less a b h = grind (arith, nat_tests)
-
 pub same_number : (a b : ℕ) → (a == b) ≡ true → a ≡ b
 same_number a b h = grind (arith, nat_tests)
-
-next_less : (a b : ℕ) → nat_lt (suc a) (suc b) ≡ nat_lt a b
-next_less a b = grind (arith, nat_tests)
 
 -- the nearer and the farther are the two
 both : (a b t : ℕ) → one (nat_lt (nearer a b) t) + one (nat_lt (farther a b) t) ≡ one (nat_lt a t) + one (nat_lt b t)
@@ -65,7 +51,7 @@ roomed_more m c y n x old new order split r =
     size_room t h = let few : under t old ≤ length old = under_few t old in omega (arith, few, h)
 
     far : (t : ℕ) → nat_lt n t ≡ false → nat_lt x t ≡ false
-    far t h = let e : t ≤ n = most n t h in no x t (omega (arith, e, order))
+    far t h = let e : t ≤ n = most n t h in no_less x t (omega (arith, e, order))
 
     least_on : (b : Bool) (t : ℕ) → nat_lt n t ≡ b → under t old ≤ length new → one (nat_lt c t) + (one (nat_lt y t) + under t old) ≤ suc (length new) → one (nat_lt n t) + under t new ≡ one (nat_lt c t) + (one (nat_lt y t) + under t old)
     least_on true t is small h =

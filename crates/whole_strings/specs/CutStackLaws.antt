@@ -5,11 +5,11 @@ use Rattle.std.proofs.lemmas.List.{take_all}
 use Rattle.clock_policy.specs.declared.key.Key.{Key}
 use Rattle.page_policies.specs.Optimal.{optimal_misses}
 use Rattle.page_policies.specs.NextUses.{next_uses}
+use Rattle.page_policies.specs.NumberLaws.{less, most, yes_less, no_less}
 use Rattle.whole_strings.specs.NextPlaces.{place}
 use Rattle.whole_strings.specs.LruDepths.{hits_within}
 use Rattle.whole_strings.specs.LruDepthLaws.{noted, referred, Few, few_at}
 use Rattle.whole_strings.specs.OptimumStack.{nearer, farther, place_depth, carried_down, restacked, CountsOptimum}
-use Rattle.whole_strings.specs.CarriedLaws.{less, most, no, yes_less}
 use Rattle.whole_strings.specs.OptimumStackLaws.{OptimumCounting, optimum_counting_open, optimum_counting_on, optimum_counting_end}
 
 -- ---- a list that is cut
@@ -178,7 +178,7 @@ cut_on bound at next d depth counts more stack after uses string some is inside 
     by_depth false h =
         let below : bound ≤ place_depth at before.deep_stack = most (place_depth at before.deep_stack) bound h in
         let same : depth ≡ bound = found ∙ depth_past bound at before.deep_stack below in
-        ap (λ (b : Bool). cond b (referred depth counts) counts) (ap (λ (k : ℕ). nat_lt k bound) same ∙ no bound bound (omega arith)) ∙ before.counts_cut ∙ referred_past bound (place_depth at before.deep_stack) before.deep_counts below all_few
+        ap (λ (b : Bool). cond b (referred depth counts) counts) (ap (λ (k : ℕ). nat_lt k bound) same ∙ no_less bound bound (omega arith)) ∙ before.counts_cut ∙ referred_past bound (place_depth at before.deep_stack) before.deep_counts below all_few
 
 -- at the end
 pub cut_end : (bound at : ℕ) (counts stack uses : List ℕ) (string : List Key) → uses ≡ next_uses string → length uses ≤ at → at ≤ length uses → CutCounting bound at counts stack string → CountsOptimum bound counts string

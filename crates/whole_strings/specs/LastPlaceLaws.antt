@@ -13,7 +13,8 @@ use Rattle.whole_strings.specs.LruDepths.{depth as depth_of_page}
 use Rattle.whole_strings.specs.LruDepthLaws.{tails, referred, Counting, counting_along, counting_begins, counting_end, count_small}
 use Rattle.whole_strings.specs.LastPlaces.{sum_from}
 use Rattle.whole_strings.specs.declared.last_places.LastPlaces.{LastPlaces}
-use Rattle.whole_strings.specs.PlaceSumLaws.{yes_less, no_less, sum_here, sums_none, length_replicate, AreSummed, Adds, Removes}
+use Rattle.page_policies.specs.NumberLaws.{yes_less, no_less}
+use Rattle.whole_strings.specs.PlaceSumLaws.{sum_here, sums_none, length_replicate, AreSummed, Adds, Removes}
 
 -- ---- the stack, each page with the place of its last use
 

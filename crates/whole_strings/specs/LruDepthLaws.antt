@@ -7,6 +7,7 @@ use Rattle.page_policies.specs.Strings.{is_page, holds, without, misses}
 use Rattle.page_policies.specs.Queues.{lru, lru_misses}
 use Rattle.page_policies.specs.Ordered.{to_front}
 use Rattle.page_policies.specs.InclusionLaws.{cut_step, nothing}
+use Rattle.page_policies.specs.NumberLaws.{less, most}
 use Rattle.whole_strings.specs.LruDepths.{depth, hits_within, CountsLru, IsLruCurve}
 
 -- one more in this place
@@ -229,12 +230,6 @@ pub record Counting (seen : ℕ) (counts : List ℕ) (stack rest string : List K
   pub counts_lru : CountsLru seen counts stack rest string
   pub few : Few seen counts
   pub size : length counts ≡ length stack
-
-less : (a b : ℕ) → nat_lt a b ≡ true → a < b
-less a b h = grind (arith, nat_tests)
-
-most : (a b : ℕ) → nat_lt a b ≡ false → b ≤ a
-most a b h = grind (arith, nat_tests)
 
 pub counting_on : (seen : ℕ) (counts : List ℕ) (p : Key) (stack rest string : List Key) → Counting seen counts stack (p ∷ rest) string → Counting (seen + 1) (referred (depth p stack) counts) (to_front p stack) rest string
 counting_on seen counts p stack rest string before = elim (nat_lt (depth p stack) (length counts)) as (λ b. nat_lt (depth p stack) (length counts) ≡ b → Counting (seen + 1) (cond b (noted (depth p stack) counts) (counts ++ 0 ∷ [])) (to_front p stack) rest string) [

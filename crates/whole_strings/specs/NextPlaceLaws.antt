@@ -8,6 +8,7 @@ use Rattle.std.specs.declared.cmp.Ordering.{Ordering}
 use Rattle.std.specs.Ordering.{nat_cmp, is_gt, match_ordering}
 use Rattle.std.specs.BTreeSet.{insert_key}
 use Rattle.std.specs.BTreeMap.Range.{IsLeBy, IsLtBy}
+use Rattle.page_policies.specs.NumberLaws.{yes_less, no_less}
 use Rattle.whole_strings.specs.NextPlaces.{under, Roomed}
 
 pub under_few : (t : ℕ) (xs : List ℕ) → under t xs ≤ length xs
@@ -138,7 +139,7 @@ pub roomed_full : (m k : ℕ) (old new : List ℕ) → m ≤ length old → old 
 roomed_full m k old new full is below =
     let size : length old ≡ length new + 1 = ap length is ∙ ended new in
     record {
-      size = rw (no (length old) m full) (omega (arith, size));
+      size = rw (no_less (length old) m full) (omega (arith, size));
       least = λ t h. either (nat_lt k t) t refl h;
       most = λ t h. or (nat_lt k t) t refl h;
     }
@@ -146,9 +147,6 @@ roomed_full m k old new full is below =
     ended : (new : List ℕ) → length (new ++ k ∷ []) ≡ length new + 1
     ended [] = refl
     ended (x ∷ xs) = let later : length (xs ++ k ∷ []) ≡ length xs + 1 = ended xs in omega (arith, later)
-
-    no : (n m : ℕ) → m ≤ n → nat_lt n m ≡ false
-    no n m h = grind (arith, nat_tests)
 
     counted : (t : ℕ) → under t old ≡ under t new + cond (nat_lt k t) 1 0
     counted t = ap (under t) is ∙ under_end t k new
@@ -177,9 +175,6 @@ roomed_free m old free = record {
   least = λ t h. refl;
   most = λ t h. let few : under t old ≤ length old = under_few t old in absurd (omega (arith, few, h));
 }
-  where
-    yes_less : (n m : ℕ) → n < m → nat_lt n m ≡ true
-    yes_less n m h = grind (arith, nat_tests)
 
 -- what `pop_last` tells
 pub roomed_popped : (m : ℕ) (popped : Option ℕ) (old new : List ℕ) → 0 < m → m ≤ length old → (IsSome popped ↔ (0 < length old)) → IfSome popped (λ k. old ≡ new ++ k ∷ []) → IfSome popped (λ k. All (λ q. IsLtBy nat_cmp q k) new) → Roomed m old new

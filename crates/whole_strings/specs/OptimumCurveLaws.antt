@@ -3,11 +3,11 @@ use Rattle.std.specs.Prelude.{◌≡◌, ℕ, zero, suc, ◌+◌, ◌-◌, ◌<�
 use Rattle.std.proofs.Common.{arith, sym, ap, ◌∙◌}
 use Rattle.clock_policy.specs.declared.key.Key.{Key}
 use Rattle.page_policies.specs.Optimal.{optimal_misses}
+use Rattle.page_policies.specs.NumberLaws.{less, most}
 use Rattle.whole_strings.specs.LruDepths.{hits_within}
 use Rattle.whole_strings.specs.LruDepthLaws.{length_new}
 use Rattle.whole_strings.specs.OptimumStack.{CountsOptimum}
 use Rattle.whole_strings.specs.OptimumCurve.{IsOptimumCurve}
-use Rattle.whole_strings.specs.CarriedLaws.{less, most}
 
 -- the misses with 1, 2 and more frames, up to so many, from those with none and the hits at each depth
 pub record FallsTo (most references : ℕ) (counts curve : List ℕ) : Type 0 where

@@ -6,13 +6,13 @@ use Rattle.page_policies.specs.Strings.{is_page, holds}
 use Rattle.page_policies.specs.Optimal.{next_use, room_for}
 use Rattle.page_policies.specs.Demand.{number}
 use Rattle.page_policies.specs.CountLaws.{near, none_number, some_number}
+use Rattle.page_policies.specs.NumberLaws.{less, most}
 use Rattle.whole_strings.specs.NextPlaces.{under, place}
 use Rattle.whole_strings.specs.NextPlaceLaws.{under_more}
 use Rattle.whole_strings.specs.PlaceStepLaws.{Stands, next_once}
 use Rattle.whole_strings.specs.OptimumStack.{place_depth, restacked}
 use Rattle.whole_strings.specs.OptimumInclusion.{optimum_leaves, OptimumInclusion}
 use Rattle.whole_strings.specs.LastPlaceLaws.{flip_page}
-use Rattle.whole_strings.specs.CarriedLaws.{less, most}
 use Rattle.whole_strings.specs.OptimumStepLaws.{hit_there, hit_stands, miss_gone, miss_stands}
 
 -- with each number of frames the first places of the stack are those of the pages

@@ -5,12 +5,13 @@ use Rattle.clock_policy.specs.declared.key.Key.{Key}
 use Rattle.page_policies.specs.Optimal.{optimal_misses}
 use Rattle.page_policies.specs.NextUses.{next_uses}
 use Rattle.page_policies.specs.DemandLaws.{one}
+use Rattle.page_policies.specs.NumberLaws.{less, most, yes_less, no_less}
 use Rattle.whole_strings.specs.NextPlaces.{place}
 use Rattle.whole_strings.specs.PlaceStepLaws.{Served, served_first, served_on, served_last}
 use Rattle.whole_strings.specs.LruDepths.{hits_within}
 use Rattle.whole_strings.specs.LruDepthLaws.{noted, noted_within, new_within, referred, Few, few_noted, few_new, length_noted, length_new}
 use Rattle.whole_strings.specs.OptimumStack.{place_depth, restacked}
-use Rattle.whole_strings.specs.CarriedLaws.{less, most, no, yes_less, length_restacked}
+use Rattle.whole_strings.specs.CarriedLaws.{length_restacked}
 use Rattle.whole_strings.specs.OptimumStepLaws.{step_hit, step_miss}
 
 -- Before the reference at `at`: with each number of frames the first places of the stack are those of the optimum's pages, and so many
@@ -89,7 +90,7 @@ counting_new at next d counts stack string inside to new before = record {
   each = λ j count is. missed j count (new_within (suc j) counts) is;
   within = λ m. let same : hits_within m (counts ++ 0 ∷ []) ≡ hits_within m counts = new_within m counts in let old : hits_within m counts ≤ at = before.within m in omega (arith, same, old);
   few = few_new at counts before.few;
-  size = length_new counts 0 ∙ ap suc before.size ∙ sym (length_restacked at next stack ∙ ap (λ (b : Bool). let k : ℕ = cond b (length stack) (suc (length stack)) in k) (no (place_depth at stack) (length stack) new));
+  size = length_new counts 0 ∙ ap suc before.size ∙ sym (length_restacked at next stack ∙ ap (λ (b : Bool). let k : ℕ = cond b (length stack) (suc (length stack)) in k) (no_less (place_depth at stack) (length stack) new));
 }
   where
     cut_short : (m : ℕ) (s : List ℕ) → length (take m s) ≤ length s

@@ -5,10 +5,11 @@ use Rattle.clock_policy.specs.declared.key.Key.{Key}
 use Rattle.page_policies.specs.Strings.{holds}
 use Rattle.page_policies.specs.Optimal.{next_use, room_for}
 use Rattle.page_policies.specs.DemandLaws.{one}
+use Rattle.page_policies.specs.NumberLaws.{yes_less}
 use Rattle.whole_strings.specs.NextPlaces.{under, place, Roomed}
 use Rattle.whole_strings.specs.PlaceStepLaws.{Stands, Left, Steps, hit_left, miss_left, place_near, place_past, past_more, there_now, none_yet}
 use Rattle.whole_strings.specs.OptimumStack.{place_depth, carried_down, restacked}
-use Rattle.whole_strings.specs.CarriedLaws.{yes_less, same_number, roomed_down, found_down, length_found_down, not_there}
+use Rattle.whole_strings.specs.CarriedLaws.{same_number, roomed_down, found_down, length_found_down, not_there}
 
 -- places are told apart by their number and by how many are below each bound
 stands_alike : (m at n : ℕ) (k l : List ℕ) (rest s : List Key) → length l ≡ length k → ((t : ℕ) → under t l ≡ under t k) → Stands m at n k rest s → Stands m at n l rest s

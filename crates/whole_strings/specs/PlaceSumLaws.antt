@@ -1,22 +1,13 @@
 -- Sums of the places that count, by blocks and groups of them: proofs.
 use Rattle.std.specs.Prelude.{◌≡◌, ℕ, zero, suc, ◌+◌, ◌-◌, ◌*◌, ◌/◌, ◌%◌, ◌^◌, ◌<◌, ◌≤◌, true, false, nat_lt, min, List, [], ◌∷◌, ◌++◌, take, drop, length, replicate, slice_index_or, slice_set, refl}
 use Rattle.std.proofs.Common.{arith, sym, ap, subst, ◌∙◌}
-use Rattle.std.proofs.lemmas.Bool.Decides.{nat_tests}
 use Rattle.page_policies.specs.DemandLaws.{one}
+use Rattle.page_policies.specs.NumberLaws.{less, most, yes_less, no_less, next_less}
 use Rattle.whole_strings.specs.LruDepthLaws.{noted, length_noted, come_back}
 use Rattle.whole_strings.specs.LastPlaces.{total, sum_from, AreBlockSums, lowered}
 use Rattle.whole_strings.specs.declared.last_places.LastPlaces.{LastPlaces}
 
 -- ---- sums of counts
-
-pub yes_less : (a b : ℕ) → a < b → nat_lt a b ≡ true
-yes_less a b h = grind (arith, nat_tests)
-
-pub no_less : (a b : ℕ) → b ≤ a → nat_lt a b ≡ false
-no_less a b h = grind (arith, nat_tests)
-
-next_less : (a b : ℕ) → nat_lt (suc a) (suc b) ≡ nat_lt a b
-next_less a b = grind (arith, nat_tests)
 
 pub sum_here : (k : ℕ) (xs : List ℕ) → sum_from k xs ≡ slice_index_or xs k 0 + sum_from (suc k) xs
 sum_here zero [] = refl
@@ -87,12 +78,6 @@ same_block k at = elim (nat_lt k (suc (at / 256))) as (λ b. nat_lt k (suc (at /
   | true ↦ λ h. let e : k < suc (at / 256) = less k (suc (at / 256)) h in yes_less (k * 256) (suc at) (omega (arith, e))
   | false ↦ λ h. let e : suc (at / 256) ≤ k = most k (suc (at / 256)) h in no_less (k * 256) (suc at) (omega (arith, e))
 ] refl
-  where
-    less : (a b : ℕ) → nat_lt a b ≡ true → a < b
-    less a b h = grind (arith, nat_tests)
-
-    most : (a b : ℕ) → nat_lt a b ≡ false → b ≤ a
-    most a b h = grind (arith, nat_tests)
 
 pub block_inside : (at : ℕ) (xs ys : List ℕ) → AreBlockSums xs ys → at < length xs → at / 256 < length ys
 block_inside at xs ys sums h = let w : length xs ≤ length ys * 256 = sums.whole in omega (arith, w, h)

@@ -7,8 +7,8 @@ use Rattle.page_policies.specs.Strings.{is_page, holds, without}
 use Rattle.page_policies.specs.Ordered.{to_front, last_of, but_last}
 use Rattle.page_policies.specs.QueueLaws.{absent}
 use Rattle.page_policies.specs.Demand.{number, IsPlayed}
-use Rattle.page_policies.specs.PartLaws.{number_append, holds_append, length_parts, front_there, number_front, number_moved, number_out, length_out, length_fewer, length_front, length_moved, length_but_last, number_but_last, hit_leaves, miss_leaves, Serves, served_plays}
-use Rattle.younger_policies.specs.TwoQueuePlayLaws.{there_first, there_second}
+use Rattle.page_policies.specs.NumberLaws.{less, most}
+use Rattle.page_policies.specs.PartLaws.{number_append, holds_append, there_first, there_second, length_parts, front_there, number_front, number_moved, number_out, length_out, length_fewer, length_front, length_moved, length_but_last, number_but_last, hit_leaves, miss_leaves, Serves, served_plays}
 use Rattle.younger_policies.specs.Arc.{ArcState, step_of, grown, shrunk, with_last, first_out, second_out, takes_first, replaced, hit, from_first, from_second, fetched, without_b1, without_b2, without_t1, case_a, case_b, all_pages, new_page, missed, in_arc, arc, arc_misses}
 use Rattle.younger_policies.specs.ArcLaws.{some_held}
 
@@ -30,12 +30,6 @@ size s = let e : length (s.t2 ++ s.t1) ≡ length s.t2 + length s.t1 = length_pa
 
 counted : (test : Key → Bool) (s : ArcState) → number test (pages s) ≡ count test s
 counted test s = number_append test s.t2 s.t1
-
-less : (a b : ℕ) → nat_lt a b ≡ true → a < b
-less a b h = grind (arith, nat_tests)
-
-most : (a b : ℕ) → nat_lt a b ≡ false → b ≤ a
-most a b h = grind (arith, nat_tests)
 
 -- What is so after each reference: L1 has c pages at most, and where a frame is free no page that left is remembered.
 record Lawful (c : ℕ) (s : ArcState) : Type 0 where

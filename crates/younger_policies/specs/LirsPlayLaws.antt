@@ -1,16 +1,13 @@
 -- LIRS is a way to serve a string: a proof.
-use Rattle.std.specs.Prelude.{◌≡◌, ℕ, zero, suc, ◌+◌, ◌-◌, ◌/◌, ◌<◌, ◌≤◌, Bool, true, false, cond, nat_lt, max, List, [], ◌∷◌, ◌++◌, length, slice_get, Option, Some, None, refl}
-use Rattle.std.proofs.Common.{arith, sym, ap, subst, ◌∙◌}
-use Rattle.std.proofs.lemmas.Bool.Decides.{nat_tests}
+use Rattle.std.specs.Prelude.{◌≡◌, ℕ, zero, suc, ◌+◌, ◌-◌, ◌/◌, ◌<◌, ◌≤◌, Bool, true, false, cond, nat_lt, max, List, [], ◌++◌, length, Option, Some, None, refl}
+use Rattle.std.proofs.Common.{arith, sym, ap, ◌∙◌}
 use Rattle.clock_policy.specs.declared.key.Key.{Key}
 use Rattle.page_policies.specs.Strings.{is_page, holds, without}
 use Rattle.page_policies.specs.Ordered.{to_front, last_of, but_last}
-use Rattle.page_policies.specs.Demand.{number, MayLeave, IsPlayed}
-use Rattle.page_policies.specs.QueueLaws.{absent}
-use Rattle.page_policies.specs.CountLaws.{none_number}
-use Rattle.page_policies.specs.PartLaws.{number_append, holds_append, length_parts, front_there, number_front, number_moved, number_out, number_fewer, length_front, length_moved, length_out, length_fewer, length_but_last, number_but_last, last_split, hit_leaves, miss_leaves, Serves, served_plays}
+use Rattle.page_policies.specs.Demand.{number, IsPlayed}
+use Rattle.page_policies.specs.NumberLaws.{less, most}
+use Rattle.page_policies.specs.PartLaws.{number_append, holds_append, there_first, there_second, there_counted, counts_itself, length_parts, front_there, number_front, number_moved, length_front, length_moved, length_but_last, number_but_last, last_split, none_last, hit_leaves, miss_leaves, Serves, served_plays}
 use Rattle.younger_policies.specs.TwoQueues.{out_with}
-use Rattle.younger_policies.specs.TwoQueuePlayLaws.{there_first, there_second}
 use Rattle.younger_policies.specs.Lirs.{LirsState, most_lir, is_bottom_lir, pruned, demoted, made_lir, kept_hir, promoted, becomes_lir, placed, room_made, lir_used, hir_used, in_lirs, lirs, lirs_misses}
 
 -- the pages in frames
@@ -32,12 +29,6 @@ size s = length_parts s.lir s.queue
 counted : (test : Key → Bool) (s : LirsState) → number test (pages s) ≡ count test s
 counted test s = number_append test s.lir s.queue
 
-less : (a b : ℕ) → nat_lt a b ≡ true → a < b
-less a b h = grind (arith, nat_tests)
-
-most : (a b : ℕ) → nat_lt a b ≡ false → b ≤ a
-most a b h = grind (arith, nat_tests)
-
 -- Pruning changes the stack alone.
 record Same (s t : LirsState) : Type 0 where
   lir : t.lir ≡ s.lir
@@ -51,19 +42,6 @@ prunes (suc n) s = elim (is_bottom_lir (last_of s.stack) s) as (λ b. Same s (co
       prunes n (record { lir = s.lir; stack = but_last s.stack; queue = s.queue }) in record { lir = later.lir; queue = later.queue }
 ]
 
--- a page that is counted is there
-there_counted : (p : Key) (s : List Key) → 1 ≤ number (is_page p) s → holds p s ≡ true
-there_counted p s some = elim (holds p s) as (λ b. holds p s ≡ b → b ≡ true) [
-  | true ↦ λ h. refl
-  | false ↦ λ h. absurd (let none : number (is_page p) s ≡ 0 = none_number p s h in omega (arith, some, none))
-] refl
-
-itself : (p : Key) → ◌≡◌ {A = ℕ} (cond (is_page p p) 1 0) 1
-itself p = ap (λ (b : Bool). let n : ℕ = cond b 1 0 in n) (same p)
-  where
-    same : (p : Key) → is_page p p ≡ true
-    same p = grind (arith, nat_tests)
-
 -- A page that goes from the LIR list to the queue: all pages are there, and none more often.
 record Moves (m : ℕ) (s t : LirsState) : Type 0 where
   some : length t.lir ≤ length s.lir
@@ -73,15 +51,7 @@ record Moves (m : ℕ) (s t : LirsState) : Type 0 where
   bound : length s.lir ≤ most_lir m + 1 → length t.lir ≤ most_lir m
 
 moves_out : (m : ℕ) (s : LirsState) (o : Option Key) → last_of s.lir ≡ o → most_lir m < length s.lir → Moves m s (record { lir = but_last s.lir; stack = s.stack; queue = out_with o s.queue })
-moves_out m s None is full = absurd (none s.lir is (omega (arith, full)))
-  where
-    none : (l : List Key) → last_of l ≡ None → 1 ≤ length l → ⊥
-    none l is some = nothing (length l - 1) l is (omega (arith, some))
-      where
-        nothing : (n : ℕ) (l : List Key) → slice_get l n ≡ None → n < length l → ⊥
-        nothing n [] is h = omega (arith, h)
-        nothing zero (q ∷ qs) is h = cc
-        nothing (suc n) (q ∷ qs) is h = nothing n qs is (omega (arith, h))
+moves_out m s None is full = absurd (let e : length s.lir ≡ 0 = none_last s.lir is in omega (arith, e, full))
 moves_out m s (Some b) is full =
     let e : length (but_last s.lir) ≡ length s.lir - 1 = length_but_last s.lir in
     let k : length (to_front b s.queue) ≤ length s.queue + 1 = length_front b s.queue in record {
@@ -121,12 +91,6 @@ record Places (m : ℕ) (p : Key) (s t : LirsState) : Type 0 where
   from : (test : Key → Bool) → count test t ≤ number test s.lir + number test (to_front p s.queue)
 
 -- the page has left the queue, and has come to the LIR list
-front_without : (p : Key) (s : LirsState) → holds p s.lir ≡ false → length (to_front p s.lir) ≡ length s.lir + 1
-front_without p s out = ap (λ (l : List Key). suc (length l)) (absent p s.lir out) ∙ more (length s.lir)
-  where
-    more : (n : ℕ) → suc n ≡ n + 1
-    more n = omega arith
-
 promotes : (m : ℕ) (p : Key) (s : LirsState) → Lawful m s → Places m p s (promoted m p s)
 promotes m p s lawful =
     let t : LirsState = made_lir p s in
@@ -135,7 +99,7 @@ promotes m p s lawful =
     let l : length (to_front p s.lir) ≤ length s.lir + 1 = length_front p s.lir in
     record {
       there = ap (λ (a : List Key). holds p (a ++ (promoted m p s).queue)) r.lir ∙ ap (λ (b : List Key). holds p ((demoted m (made_lir p s)).lir ++ b)) r.queue
-          ∙ d.kept p (let e : ◌≡◌ {A = ℕ} (cond (is_page p p) 1 0) 1 = itself p in omega (arith, e));
+          ∙ d.kept p (let e : ◌≡◌ {A = ℕ} (cond (is_page p p) 1 0) 1 = counts_itself p in omega (arith, e));
       some = let e : length (promoted m p s).lir ≡ length (demoted m (made_lir p s)).lir = ap length r.lir in let b : length (demoted m (made_lir p s)).lir ≤ most_lir m = d.bound (let g : length s.lir ≤ most_lir m = lawful.some in omega (arith, l, g)) in omega (arith, e, b);
       few =
           let e : length (promoted m p s).lir ≡ length (demoted m (made_lir p s)).lir = ap length r.lir in

@@ -1,13 +1,13 @@
 -- S3-FIFO is a way to serve a string: a proof.
-use Rattle.std.specs.Prelude.{◌≡◌, ℕ, zero, suc, ◌+◌, ◌-◌, ◌*◌, ◌<◌, ◌≤◌, ◌⊎◌, Bool, true, false, cond, nat_lt, nat_le, List, [], ◌∷◌, ◌++◌, length, slice_get, Option, Some, None, refl}
+use Rattle.std.specs.Prelude.{◌≡◌, ℕ, zero, suc, ◌+◌, ◌-◌, ◌*◌, ◌<◌, ◌≤◌, ◌⊎◌, Bool, true, false, cond, nat_lt, nat_le, List, [], ◌++◌, length, Option, Some, None, refl}
 use Rattle.std.proofs.Common.{arith, sym, ap, inl, inr, ◌∙◌}
 use Rattle.std.proofs.lemmas.Bool.Decides.{nat_tests}
 use Rattle.clock_policy.specs.declared.key.Key.{Key}
 use Rattle.page_policies.specs.Strings.{holds}
 use Rattle.page_policies.specs.Ordered.{to_front, last_of, but_last}
 use Rattle.page_policies.specs.Demand.{number, MayLeave, IsPlayed}
-use Rattle.page_policies.specs.PartLaws.{number_append, holds_append, length_parts, front_there, number_front, length_front, length_moved, number_moved, length_but_last, number_but_last, last_split, last_there, hit_leaves, miss_leaves, Serves, served_plays}
-use Rattle.younger_policies.specs.TwoQueuePlayLaws.{there_first, there_second}
+use Rattle.page_policies.specs.NumberLaws.{less, most}
+use Rattle.page_policies.specs.PartLaws.{number_append, holds_append, there_first, there_second, length_parts, front_there, number_front, length_front, length_moved, number_moved, length_but_last, number_but_last, last_split, last_there, none_last, some_last, hit_leaves, miss_leaves, Serves, served_plays}
 use Rattle.younger_policies.specs.S3Fifo.{S3FifoState, main_frames, pages_in, main_again, tail_freq, main_out, evicted_main, main_turned, main_cut, small_up, small_out, evicted_small, evicted, room_made, came_back, came, inserted, used, in_s3_fifo, s3_fifo, s3_fifo_misses}
 
 -- the pages in frames
@@ -25,12 +25,6 @@ size s = length_parts s.small s.main
 
 counted : (test : Key → Bool) (s : S3FifoState) → number test (pages s) ≡ count test s
 counted test s = number_append test s.small s.main
-
-less : (a b : ℕ) → nat_lt a b ≡ true → a < b
-less a b h = grind (arith, nat_tests)
-
-most : (a b : ℕ) → nat_lt a b ≡ false → b ≤ a
-most a b h = grind (arith, nat_tests)
 
 -- What an eviction from M leaves: S as it was, M with one page fewer, if it had one, and no page that was not there.
 record FromMain (s t : S3FifoState) : Type 0 where
@@ -92,10 +86,6 @@ cuts m s = elim (nat_lt (main_frames m) (length s.main)) as (λ b. Within s (con
   | false ↦ record { small = refl; fewer = record { few = omega arith; fewer = λ test. omega arith } }
 ]
 
-some_last : (s : List Key) (t : Key) → last_of s ≡ Some t → 1 ≤ length s
-some_last [] t is = cc
-some_last (q ∷ qs) t is = omega arith
-
 -- a page that goes from S to M
 record Up (s t : S3FifoState) : Type 0 where
   small : length t.small + 1 ≡ length s.small
@@ -148,14 +138,6 @@ after s t u f (inr g) = inr (
 
 itself : (s : S3FifoState) → Fewer 0 s s
 itself s = record { few = omega arith; fewer = λ test. omega arith }
-
-none_last : (s : List Key) → last_of s ≡ None → length s ≡ 0
-none_last [] is = refl
-none_last (q ∷ qs) is = let e : suc (length qs) - 1 ≡ length qs = omega arith in absurd (some q qs (sym (ap (slice_get (q ∷ qs)) e) ∙ is))
-  where
-    some : (q : Key) (qs : List Key) → slice_get (q ∷ qs) (length qs) ≡ None → ⊥
-    some q [] is = cc
-    some q (r ∷ rs) is = some r rs is
 
 evicts_small : (m n : ℕ) (s : S3FifoState) → length s.small ≤ n → Evicts s (evicted_small m n s)
 evicts_small m zero s few = inr (itself s, omega (arith, few))

@@ -6,8 +6,8 @@ use Rattle.clock_policy.specs.declared.key.Key.{Key}
 use Rattle.page_policies.specs.Strings.{is_page, holds}
 use Rattle.page_policies.specs.Ordered.{to_front, last_of, but_last}
 use Rattle.page_policies.specs.Demand.{number, IsPlayed}
-use Rattle.page_policies.specs.PartLaws.{number_append, holds_append, length_parts, front_there, number_front, length_front, length_but_last, number_but_last, last_split, hit_leaves, miss_leaves, Serves, served_plays}
-use Rattle.younger_policies.specs.TwoQueuePlayLaws.{there_first}
+use Rattle.page_policies.specs.NumberLaws.{less, most}
+use Rattle.page_policies.specs.PartLaws.{number_append, holds_append, there_first, length_parts, front_there, number_front, length_front, length_but_last, number_but_last, last_split, hit_leaves, miss_leaves, Serves, served_plays}
 use Rattle.younger_policies.specs.Sieve.{SieveState, wrapped, hand_visited, passed, discarded, swept, queue_length, made_room, inserted, visit, in_sieve, sieve, sieve_misses}
 
 -- the pages in frames
@@ -126,12 +126,6 @@ room_is m s some lawful = elim (nat_lt (queue_length s) m) as (λ b. nat_lt (que
       let t : Turns 1 s (swept (queue_length s) s) = sweeps (queue_length s) s lawful.hand (omega (arith, full, some)) in
       record { few = let f : queue_length (swept (queue_length s) s) + 1 ≤ queue_length s = t.few in let g : queue_length s ≤ m = lawful.few in omega (arith, f, g); fewer = t.fewer }
 ] refl
-  where
-    less : (a b : ℕ) → nat_lt a b ≡ true → a < b
-    less a b h = grind (arith, nat_tests)
-
-    most : (a b : ℕ) → nat_lt a b ≡ false → b ≤ a
-    most a b h = grind (arith, nat_tests)
 
 size : (s : SieveState) → length (pages s) ≡ queue_length s
 size s = length_parts s.ahead s.behind

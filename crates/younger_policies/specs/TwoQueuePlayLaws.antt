@@ -1,12 +1,12 @@
 -- 2Q is a way to serve a string: a proof.
 use Rattle.std.specs.Prelude.{◌≡◌, ℕ, ◌+◌, ◌-◌, ◌<◌, ◌≤◌, Bool, true, false, cond, nat_lt, List, [], ◌++◌, length, refl}
-use Rattle.std.proofs.Common.{arith, sym, ap, ◌∙◌}
-use Rattle.std.proofs.lemmas.Bool.Decides.{nat_tests}
+use Rattle.std.proofs.Common.{arith, sym, ◌∙◌}
 use Rattle.clock_policy.specs.declared.key.Key.{Key}
 use Rattle.page_policies.specs.Strings.{holds}
 use Rattle.page_policies.specs.Ordered.{to_front, but_last}
 use Rattle.page_policies.specs.Demand.{number, MayLeave, IsPlayed}
-use Rattle.page_policies.specs.PartLaws.{number_append, holds_append, length_parts, front_there, number_front, number_moved, length_front, length_moved, length_but_last, number_but_last, hit_leaves, miss_leaves, Serves, served_plays}
+use Rattle.page_policies.specs.NumberLaws.{less, most}
+use Rattle.page_policies.specs.PartLaws.{number_append, holds_append, there_first, there_second, length_parts, front_there, number_front, number_moved, length_front, length_moved, length_but_last, number_but_last, hit_leaves, miss_leaves, Serves, served_plays}
 use Rattle.younger_policies.specs.TwoQueues.{TwoQueuesState, kin, recent_out, main_out, reclaimed, came_back, came, brought, used, in_two_queues, two_queues, two_queues_misses}
 
 -- the pages in frames
@@ -27,16 +27,6 @@ size s = let e : length (s.am ++ s.a1in) ≡ length s.am + length s.a1in = lengt
 
 counted : (test : Key → Bool) (s : TwoQueuesState) → number test (pages s) ≡ count test s
 counted test s = number_append test s.am s.a1in
-
-pub there_first : (p : Key) (a b : List Key) → holds p a ≡ true → holds p (a ++ b) ≡ true
-there_first p a b h = holds_append p a b ∙ ap (λ (t : Bool). cond t true (holds p b)) h
-
-pub there_second : (p : Key) (a b : List Key) → holds p b ≡ true → holds p (a ++ b) ≡ true
-there_second p a b h = holds_append p a b ∙ ap (λ (t : Bool). cond (holds p a) true t) h ∙ either (holds p a)
-  where
-    either : (t : Bool) → cond t true true ≡ true
-    either true = refl
-    either false = refl
 
 -- room for one page
 record Room (m : ℕ) (s t : TwoQueuesState) : Type 0 where
@@ -62,12 +52,6 @@ room_is m s some few = elim (nat_lt (room s) m) as (λ b. nat_lt (room s) m ≡ 
   ] refl
 ] refl
   where
-    less : (a b : ℕ) → nat_lt a b ≡ true → a < b
-    less a b h = grind (arith, nat_tests)
-
-    most : (a b : ℕ) → nat_lt a b ≡ false → b ≤ a
-    most a b h = grind (arith, nat_tests)
-
     sums : (m k a b c : ℕ) → a + b ≤ m → a ≤ k → k < m → m ≤ a + b → c ≡ b - 1 → a + c < m
     sums m k a b c few some q f e = omega (arith, few, some, q, f, e)
 

@@ -1,5 +1,6 @@
 -- What readers of a trace answer, where the bytes are known that the file still holds.
 use Rattle.std.specs.Prelude.{◌≡◌, ℕ, ⊤, ◌+◌, ◌++◌, Bool, true, false, List, [], ◌∷◌, length, filter, map, Option, Some, None, Result, Ok, Err, IfSome, if◌then◌else◌}
+use Rattle.std.specs.Borrow.{Bor}
 use Rattle.std.specs.Io.Buffered.{reader_inner, reader_remaining}
 use Rattle.std.specs.Option.{option_map}
 use Rattle.std.specs.declared.io.buffered.BufReader.{BufReader}
@@ -106,6 +107,10 @@ pages_left remaining format column pieces = option_map (pages_from format column
 abbrev pub to_come : {B : Type 0} → (B → Option (List ℕ)) → TraceFile B → Option Trace
 to_come remaining trace = if is_of_addresses trace.format then addresses_left remaining trace.format trace.held trace.second trace.pieces
     else pages_left remaining trace.format trace.column trace.pieces
+
+-- the name that a trace was opened by
+abbrev pub name_of : {B : Type 0} → TraceFile B → Bor (List ℕ)
+name_of trace = trace.pieces.name
 
 -- all that the reader below a trace holds is still to come
 abbrev pub IsAtFront : {F A : Type 0} → (F → Option (List ℕ)) → TraceFormat → TraceFile (BufReader F A) → Type 0

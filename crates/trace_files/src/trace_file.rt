@@ -28,6 +28,7 @@ ghost use Rattle.trace_files.specs.ReferenceAnswers.{
   Opens,
   Tells,
   TellsPages,
+  name_of,
   pages_left,
   to_come,
 };
@@ -68,7 +69,7 @@ impl<'a, B: BufRead + Drop> TraceFile<'a, B> {
         ensures told { to_come B.remaining result ≡ option_map (trace_of format)
             (B.remaining file) }
         ensures file { result.pieces.file ≡ file }
-        ensures named { result.pieces.name.now ≡ name.now }
+        ensures named { (name_of result).now ≡ name.now }
     {
         TraceFile {
             format,
@@ -89,8 +90,8 @@ impl<'a, B: BufRead + Drop> TraceFile<'a, B> {
             self.old) (λ _. to_come B.remaining self.new ≡ Some Ends)) }
         ensures fault { IfErr result (λ fault. IfSome (to_come B.remaining self.old) (EndsBy
             fault)) }
-        ensures named { IfErr result (Names self.old.pieces.name.now) }
-        ensures kept { self.new.pieces.name ≡ self.old.pieces.name }
+        ensures named { IfErr result (Names (name_of self.old).now) }
+        ensures kept { name_of self.new ≡ name_of self.old }
     {
         block.clear();
         'references: for _ in 0..most {
@@ -108,8 +109,8 @@ impl<'a, B: BufRead + Drop> TraceFile<'a, B> {
     pub fn next(&mut self) -> Result<Option<Reference>, TraceFault<'a>>
         ensures told { Tells Gives result (to_come B.remaining self.old)
             (to_come B.remaining self.new) }
-        ensures named { IfErr result (Names self.old.pieces.name.now) }
-        ensures kept { self.new.pieces.name ≡ self.old.pieces.name }
+        ensures named { IfErr result (Names (name_of self.old).now) }
+        ensures kept { name_of self.new ≡ name_of self.old }
     {
         if is_of_addresses(self.format) {
             return next_joined(
@@ -130,7 +131,7 @@ pub fn open_trace<'a, R: Files + AllocGlobal>(
     format: TraceFormat,
 ) -> Result<TraceFile<'a, BufReader<R::File>>, TraceFault<'a>>
     ensures told { IfOk result (IsAtFront R.File.remaining format) }
-    ensures named { IfOk result (λ trace. trace.pieces.name.now ≡ name.now) }
+    ensures named { IfOk result (λ trace. (name_of trace).now ≡ name.now) }
     ensures fault { IfErr result (λ fault. (fault ≡ TraceFault.NoMemory) ⊎ IsUnread name.now
         fault) }
 {
@@ -146,7 +147,7 @@ fn trace_over<'a, F: Read + Drop>(
     opened: io::Result<F>,
 ) -> Result<TraceFile<'a, BufReader<F>>, TraceFault<'a>>
     ensures told { IfOk result (IsAtFront F.remaining format) }
-    ensures named { IfOk result (λ trace. trace.pieces.name.now ≡ name.now) }
+    ensures named { IfOk result (λ trace. (name_of trace).now ≡ name.now) }
     ensures answered { Opens name.now opened result }
 {
     let Ok(file) = opened else {

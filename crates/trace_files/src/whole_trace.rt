@@ -22,6 +22,7 @@ ghost use Rattle.trace_files.specs.ReferenceAnswers.{
   IsWhole,
   Names,
   StopsBy,
+  name_of,
   to_come,
 };
 
@@ -47,7 +48,7 @@ pub fn read_whole<'a, B: BufRead + Drop, P: StageListener>(
         string.items)) }
     ensures fault { IfErr result (λ fault. IfSome (to_come B.remaining trace.old) (StopsBy
         fault)) }
-    ensures named { IfErr result (Names trace.old.pieces.name.now) }
+    ensures named { IfErr result (Names (name_of trace.old).now) }
 {
     let mut string = Vec::new(alloc);
     let mut block = Vec::new(alloc);
@@ -80,7 +81,7 @@ pub fn read_references<'a, B: BufRead + Drop, P: StageListener>(
         string.items)) }
     ensures fault { IfErr result (λ fault. IfSome (to_come B.remaining trace.old) (StopsBy
         fault)) }
-    ensures named { IfErr result (Names trace.old.pieces.name.now) }
+    ensures named { IfErr result (Names (name_of trace.old).now) }
 {
     let mut string = Vec::new(alloc);
     'references: for _ in 0..u64::MAX {
@@ -114,7 +115,7 @@ pub fn read_sample<'a, B: BufRead + Drop, P: StageListener>(
         (is_sampled one_in.value) read.0.items read.1)) }
     ensures fault { IfErr result (λ fault. IfSome (to_come B.remaining trace.old) (StopsBy
         fault)) }
-    ensures named { IfErr result (Names trace.old.pieces.name.now) }
+    ensures named { IfErr result (Names (name_of trace.old).now) }
 {
     let mut sample = Vec::new(alloc);
     'references: for references in 0..u64::MAX {

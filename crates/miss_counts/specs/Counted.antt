@@ -52,25 +52,30 @@ abbrev pub asked : Bool → ℕ → Option ℕ
 asked true n = Some n
 asked false n = None
 
+-- a count of each policy that is asked for, by what it misses of each string with so many frames; the string that is served has so many
+-- references, and so much is counted of the optimum
+abbrev pub counts_by : ((List Key → ℕ) → ℕ) → PolicySet → ℕ → Option ℕ → Frames → PolicyCounts
+counts_by count wanted references optimum frames = record {
+  frames = frames;
+  references = references;
+  fifo = asked wanted.fifo (count (fifo_misses frames.number));
+  clock = asked wanted.clock (count (clock_misses frames.number));
+  lru = asked wanted.lru (count (lru_misses frames.number));
+  clock_pro_used = asked wanted.clock_pro_used (count (clock_pro_used_misses frames.number));
+  clock_pro = asked wanted.clock_pro (count (clock_pro_misses frames.number));
+  two_queues = asked wanted.two_queues (count (two_queues_misses frames.number));
+  lirs = asked wanted.lirs (count (lirs_misses frames.number));
+  arc = asked wanted.arc (count (arc_misses frames.number));
+  sieve = asked wanted.sieve (count (sieve_misses frames.number));
+  s3_fifo = asked wanted.s3_fifo (count (s3_fifo_misses frames.number));
+  w_tiny_lfu = asked wanted.w_tiny_lfu (count (w_tiny_lfu_misses frames.number));
+  random = asked wanted.random (count (random_misses frames.number));
+  optimum = optimum;
+}
+
 -- what each policy that is asked for misses of a string with so many frames, and what the optimum does
 abbrev pub counted : PolicySet → List Key → Frames → PolicyCounts
-counted wanted string frames = record {
-  frames = frames;
-  references = length string;
-  fifo = asked wanted.fifo (fifo_misses frames.number string);
-  clock = asked wanted.clock (clock_misses frames.number string);
-  lru = asked wanted.lru (lru_misses frames.number string);
-  clock_pro_used = asked wanted.clock_pro_used (clock_pro_used_misses frames.number string);
-  clock_pro = asked wanted.clock_pro (clock_pro_misses frames.number string);
-  two_queues = asked wanted.two_queues (two_queues_misses frames.number string);
-  lirs = asked wanted.lirs (lirs_misses frames.number string);
-  arc = asked wanted.arc (arc_misses frames.number string);
-  sieve = asked wanted.sieve (sieve_misses frames.number string);
-  s3_fifo = asked wanted.s3_fifo (s3_fifo_misses frames.number string);
-  w_tiny_lfu = asked wanted.w_tiny_lfu (w_tiny_lfu_misses frames.number string);
-  random = asked wanted.random (random_misses frames.number string);
-  optimum = asked wanted.optimum (optimal_misses frames.number string);
-}
+counted wanted string frames = counts_by (λ misses. misses string) wanted (length string) (asked wanted.optimum (optimal_misses frames.number string)) frames
 
 -- rows of such counts for the usual numbers of frames, up to the string's pages
 pub record IsUsualTable (wanted : PolicySet) (string : List Key) (rows : List PolicyCounts) : Type 0 where

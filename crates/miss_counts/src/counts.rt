@@ -4,15 +4,13 @@ ghost use Rattle.std.specs.Prelude.{◌≡◌, ◌↔◌, IfOk, Err, Some, None,
 ghost use Rattle.page_policies.specs.Optimal.{optimal_misses};
 ghost use Rattle.miss_counts.specs.Counted.{counted, asked, serves, all_serve, since, left};
 
+use crate::play_count::{PlayCount, counts_by};
 use crate::policy_set::PolicySet;
 use crate::stages::{Stage, StageListener};
 use clock_policy::Key;
-use clock_ring::ClockRing;
-use page_policies::{Fifo, Frames, Lru, Policy, PolicyRefusal, RandomPolicy, SecondChance, misses};
+use page_policies::{Frames, Policy, PolicyRefusal, misses};
 use std::alloc::{AllocError, Global};
-use tiny_lfu::WTinyLfu;
 use whole_strings::optimum_counts;
-use younger_policies::{Arc, ClockPro, ClockProUsed, Lirs, S3Fifo, Sieve, TwoQueues};
 
 /// Misses with so many frames, of the policies that were asked for.
 #[derive(Clone, Copy, Debug, PartialEq, Eq)]
@@ -72,23 +70,21 @@ fn left(after: Option<u64>, before: Option<u64>) -> Option<u64>
     }
 }
 
-/// What a string misses under a policy, where that is asked for. It serves so many frames.
-fn misses_if<P: Policy>(
-    alloc: Global,
-    frames: Frames,
-    string: &[Key],
-    is_wanted: bool,
-) -> Result<Option<u64>, AllocError>
-    requires { is_wanted ≡ true → P.refuses frames.number → ⊥ }
-    ensures { IfOk result (λ count. count ≡ asked is_wanted (P.misses frames.number string.now)) }
-{
-    if !is_wanted {
-        return Ok(None);
-    }
-    match misses::<P>(alloc, frames, string) {
-        Ok(count) => Ok(Some(count as u64)),
-        Err(PolicyRefusal::NoMemory) => Err(AllocError),
-        Err(PolicyRefusal::BadSize) => unreachable!(),
+/// What a string misses under a policy.
+#[derive(Drop)]
+struct MissCount<'s> {
+    string: &'s [Key],
+}
+
+impl<'s> PlayCount for MissCount<'s> {
+    ghost counts = { λ counting misses. misses counting.string.now };
+
+    fn count_under<P: Policy>(
+        &self,
+        alloc: Global,
+        frames: Frames,
+    ) -> Result<usize, PolicyRefusal> {
+        misses::<P>(alloc, frames, self.string)
     }
 }
 
@@ -135,7 +131,6 @@ fn floors_if(
 }
 
 /// What a string misses with so many frames, where it is told what the optimum does.
-#[tactic(auto, using(crate::specs::ServingLaws::used_is_served, crate::specs::ServingLaws::published_is_served))]
 fn counts_of(
     alloc: Global,
     frames: Frames,
@@ -147,40 +142,15 @@ fn counts_of(
     requires optimum { optimum ≡ asked wanted.optimum (optimal_misses frames.number string.now) }
     ensures { IfOk result (λ counts. counts ≡ counted wanted string.now frames) }
 {
-    let fifo = misses_if::<Fifo>(alloc, frames, string, wanted.fifo)?;
-    let clock = misses_if::<SecondChance>(alloc, frames, string, wanted.clock)?;
-    let lru = misses_if::<Lru>(alloc, frames, string, wanted.lru)?;
-    let clock_pro_used = misses_if::<ClockProUsed<ClockRing>>(
+    let counting = MissCount { string };
+    counts_by(
         alloc,
         frames,
-        string,
-        wanted.clock_pro_used,
-    )?;
-    let clock_pro = misses_if::<ClockPro<ClockRing>>(alloc, frames, string, wanted.clock_pro)?;
-    let two_queues = misses_if::<TwoQueues>(alloc, frames, string, wanted.two_queues)?;
-    let lirs = misses_if::<Lirs>(alloc, frames, string, wanted.lirs)?;
-    let arc = misses_if::<Arc>(alloc, frames, string, wanted.arc)?;
-    let sieve = misses_if::<Sieve>(alloc, frames, string, wanted.sieve)?;
-    let s3_fifo = misses_if::<S3Fifo>(alloc, frames, string, wanted.s3_fifo)?;
-    let w_tiny_lfu = misses_if::<WTinyLfu>(alloc, frames, string, wanted.w_tiny_lfu)?;
-    let random = misses_if::<RandomPolicy>(alloc, frames, string, wanted.random)?;
-    Ok(PolicyCounts {
-        frames,
-        references: string.len() as u64,
-        fifo,
-        clock,
-        lru,
-        clock_pro_used,
-        clock_pro,
-        two_queues,
-        lirs,
-        arc,
-        sieve,
-        s3_fifo,
-        w_tiny_lfu,
-        random,
+        &counting,
+        string.len() as u64,
         optimum,
-    })
+        wanted,
+    )
 }
 
 /// What a string misses with each of these numbers of frames, under the policies that are asked for.

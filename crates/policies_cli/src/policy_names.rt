@@ -29,15 +29,7 @@ pub(crate) const USUAL: PolicySet = PolicySet {
     clock: true,
     lru: true,
     clock_pro_used: true,
-    clock_pro: false,
-    two_queues: false,
-    lirs: false,
-    arc: false,
-    sieve: false,
-    s3_fifo: false,
-    w_tiny_lfu: false,
-    random: false,
-    optimum: false,
+    ..NONE
 };
 
 /// The policies that a list names, or the first word of it that names none.

@@ -1,6 +1,7 @@
 //! The program `guest`: runs a program as a simulator does, tells its steps, and counts where it spends them.
 #![tactic(auto)]
 
+mod begun_steps;
 mod callgrind;
 mod commands;
 mod debug_command;

@@ -3,19 +3,18 @@
 ghost use Rattle.std.specs.Prelude.{OnOk};
 ghost use Rattle.guest_cli.specs.CountedRuns.{CountsAll};
 
+use crate::begun_steps::begin_steps;
 use crate::callgrind::write_callgrind;
-use crate::input::read_whole;
 use crate::profile_tables::Tables;
 use crate::profile_text::write_profile;
 use crate::request::ProfileRequest;
 use elf_symbols::Symbols;
-use flat_machine::FlatProcess;
 use guest_profile::Profile;
 use guest_steps::StepString;
-use image_files::{Fault, Folder, read_image};
+use image_files::{Fault, Folder};
 use std::io::{Read, Write};
 
-/// Counts the steps of an image on an input, on flat memory, and writes where they are. The image is read before the input.
+/// Counts the steps of an image on an input, on flat memory, and writes where they are.
 pub(crate) fn run_profile<'a, R: Folder + AllocGlobal, I: Read + Drop, O: Write>(
     rt: &R,
     request: ProfileRequest<'a>,
@@ -23,12 +22,8 @@ pub(crate) fn run_profile<'a, R: Folder + AllocGlobal, I: Read + Drop, O: Write>
     out: &mut O,
 ) -> Result<u8, Fault<'a>> {
     let alloc = rt.alloc();
-    let image = read_image(rt, request.image)?;
-    let file = rt.read(request.image)?;
+    let (mut steps, file) = begin_steps(rt, request.image, input, request.limit)?;
     let symbols = Symbols::read(alloc, file.as_slice())?;
-    let input = read_whole(alloc, input)?;
-    let process = FlatProcess::new(alloc, &image, input)?;
-    let mut steps = StepString::new(process, request.limit);
     let mut profile = Profile::new(alloc)?;
     count_steps(&mut steps, &mut profile)?;
     profile.end()?;

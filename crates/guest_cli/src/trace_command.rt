@@ -1,29 +1,23 @@
 //! `guest trace`: a program's steps, a line each.
 
+use crate::begun_steps::begin_steps;
 use crate::functions::{Depths, write_flow};
-use crate::input::read_whole;
 use crate::request::TraceRequest;
 use crate::step_line::write_step;
 use elf_symbols::Symbols;
-use flat_machine::FlatProcess;
 use guest_steps::{StepString, ToldStep};
-use image_files::{Fault, Folder, read_image};
+use image_files::{Fault, Folder};
 use std::io::{Read, Write};
 
-/// Writes the steps of an image on an input, on flat memory. The image is read before the input.
+/// Writes the steps of an image on an input, on flat memory.
 pub(crate) fn run_trace<'a, R: Folder + AllocGlobal, I: Read + Drop, O: Write>(
     rt: &R,
     request: TraceRequest<'a>,
     input: I,
     out: &mut O,
 ) -> Result<u8, Fault<'a>> {
-    let alloc = rt.alloc();
-    let image = read_image(rt, request.image)?;
-    let file = rt.read(request.image)?;
-    let symbols = Symbols::read(alloc, file.as_slice())?;
-    let input = read_whole(alloc, input)?;
-    let process = FlatProcess::new(alloc, &image, input)?;
-    let mut steps = StepString::new(process, u64::MAX);
+    let (mut steps, file) = begin_steps(rt, request.image, input, u64::MAX)?;
+    let symbols = Symbols::read(rt.alloc(), file.as_slice())?;
     write_steps(&mut steps, request, &symbols, out)?;
     Ok(0)
 }

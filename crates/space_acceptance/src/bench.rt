@@ -11,6 +11,7 @@ use rv_asm::assemble;
 use rv_exec::Regs;
 use space_core::{Slice, Space};
 use std::alloc::Global;
+use std::marker::Brand;
 use std::process::Abort;
 use std::sync::ledger::{Blank, Ledger};
 use std::test::Fail;
@@ -85,13 +86,12 @@ pub(crate) struct Bench<L: Ledger, S: SwapSlot> {
 }
 
 impl<L: Ledger, S: SwapSlot> Bench<L, S> {
-    /// The process that is to run a source, with four frames and these slots.
-    pub fn begin(alloc: Global, source: &str, spares: Vec<S>, blank: Blank) -> Result<Self, Fail>
+    /// The process of an image, with four frames and these slots.
+    pub fn begin(alloc: Global, image: Image, spares: Vec<S>, blank: Blank) -> Result<Self, Fail>
         requires name { blank.name ≡ L.name }
         requires parts { blank.parts ≡ L.parts }
         requires one_each { L.parts ≡ 5 }
     {
-        let image = image_of(alloc, source)?;
         Ok(Bench {
             space: Space::new(alloc, 0, image, Vec::new(alloc))?,
             frames: FramePool::new(alloc, 4, blank)?,
@@ -317,6 +317,37 @@ pub(crate) fn expect<L: Ledger, S: SwapSlot>(
         let got = bench.call(*call);
         assert!(rt; got == *answer, "call {place}");
     }
+}
+
+/// A process that runs a source, with these slots, answers to lists of calls as they tell.
+pub(crate) fn answers<S: SwapSlot>(
+    rt: &impl Abort,
+    alloc: Global,
+    source: &str,
+    slots: Vec<S>,
+    lists: &[&[(Call, Answer)]],
+) -> Result<(), Fail> {
+    let image = image_of(alloc, source)?;
+    answers_in::<Brand, S>(rt, alloc, image, slots, Blank::new(5), lists)
+}
+
+fn answers_in<L: Ledger, S: SwapSlot>(
+    rt: &impl Abort,
+    alloc: Global,
+    image: Image,
+    slots: Vec<S>,
+    blank: Blank,
+    lists: &[&[(Call, Answer)]],
+) -> Result<(), Fail>
+    requires name { blank.name ≡ L.name }
+    requires parts { blank.parts ≡ L.parts }
+    requires one_each { L.parts ≡ 5 }
+{
+    let mut bench: Bench<L, S> = Bench::begin(alloc, image, slots, blank)?;
+    for list in lists {
+        expect(rt, &mut bench, list);
+    }
+    Ok(())
 }
 
 /// The image of a source.

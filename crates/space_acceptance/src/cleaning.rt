@@ -1,17 +1,11 @@
 //! A page is written to its slot while it stays mapped.
 
-ghost use Rattle.std.specs.Prelude.{◌≡◌};
-
-use crate::bench::{Answer, Bench, Call, expect};
+use crate::bench::{Answer, Call, answers};
 use crate::paging::{ran, slice};
 use page_store::{CleanRefusal, PageState};
-use space_core::SliceStop;
-use std::alloc::Global;
-use std::marker::Brand;
-use std::process::Abort;
-use std::sync::ledger::{Blank, Ledger};
+use space_core::{Slice, SliceStop};
 use std::test::Fail;
-use swap_slots::{FuseSlot, MemorySlot, SwapSlot};
+use swap_slots::{FuseSlot, MemorySlot};
 use test_guests::STORES_A_BYTE;
 
 /// Stores a byte with each of three instructions, the first of which is the fourth.
@@ -28,41 +22,32 @@ buf:    .word 0
 ";
 
 /// Its page of data is stored to, and its cleaning begins.
-fn begins<L: Ledger, S: SwapSlot>(rt: &impl Abort, bench: &mut Bench<L, S>) {
-    let calls = [
-        (Call::PageIn(0x10), Answer::Done),
-        (Call::PageIn(0x11), Answer::Done),
-        (slice(0, 4), ran(4, SliceStop::Budget)),
-        (Call::BeginClean(0x11), Answer::Done),
-    ];
-    expect(rt, bench, &calls);
-}
+const BEGINS: [(Call, Answer); 4] = [
+    (Call::PageIn(0x10), Answer::Done),
+    (Call::PageIn(0x11), Answer::Done),
+    (
+        Call::Slice { hart: 0, budget: 4 },
+        Answer::Ran(Slice {
+            ran: 4,
+            stop: SliceStop::Budget,
+        }),
+    ),
+    (Call::BeginClean(0x11), Answer::Done),
+];
 
 /// And a copy of it goes out behind the notice.
-fn copies<L: Ledger, S: SwapSlot>(rt: &impl Abort, bench: &mut Bench<L, S>) {
-    begins(rt, bench);
-    let calls = [
-        (Call::CopyClean(0x11), Answer::NotYet),
-        (Call::TakeNotices(0), Answer::Done),
-        (Call::CopyClean(0x11), Answer::Copied),
-        (Call::CopyClean(0x11), Answer::NotCleaning),
-    ];
-    expect(rt, bench, &calls);
-}
+const COPIES: [(Call, Answer); 4] = [
+    (Call::CopyClean(0x11), Answer::NotYet),
+    (Call::TakeNotices(0), Answer::Done),
+    (Call::CopyClean(0x11), Answer::Copied),
+    (Call::CopyClean(0x11), Answer::NotCleaning),
+];
 
 /// A page that was cleaned is dropped, with no save.
-fn drops_what_was_cleaned<L: Ledger>(
-    rt: &impl Abort,
-    alloc: Global,
-    blank: Blank,
-) -> Result<(), Fail>
-    requires name { blank.name ≡ L.name }
-    requires parts { blank.parts ≡ L.parts }
-    requires one_each { L.parts ≡ 5 }
-{
+#[test]
+fn a_page_that_was_cleaned_is_dropped(rt: HostRuntime) -> Result<(), Fail> {
+    let alloc = rt.alloc();
     let slots = vec![in alloc; MemorySlot::new(alloc)?]?;
-    let mut bench: Bench<L, MemorySlot> = Bench::begin(alloc, STORES_A_BYTE, slots, blank)?;
-    copies(rt, &mut bench);
     let calls = [
         (Call::NextChanged(0), Answer::Word(Some(0x11))),
         (Call::EndClean, Answer::Cleaned),
@@ -82,23 +67,19 @@ fn drops_what_was_cleaned<L: Ledger>(
         (Call::PageIn(0x11), Answer::Done),
         (Call::Peek(0x1_1003), Answer::Byte(Ok(Some(5)))),
     ];
-    expect(rt, &mut bench, &calls);
-    Ok(())
+    answers(
+        &rt,
+        alloc,
+        STORES_A_BYTE,
+        slots,
+        &[&BEGINS, &COPIES, &calls],
+    )
 }
 
 /// With no slot the cleaning ends, and the page counts as changed, though its dirty bit is clear.
-fn finds_no_slot<L: Ledger>(rt: &impl Abort, alloc: Global, blank: Blank) -> Result<(), Fail>
-    requires name { blank.name ≡ L.name }
-    requires parts { blank.parts ≡ L.parts }
-    requires one_each { L.parts ≡ 5 }
-{
-    let mut bench: Bench<L, MemorySlot> = Bench::begin(
-        alloc,
-        STORES_A_BYTE,
-        Vec::new(alloc),
-        blank,
-    )?;
-    begins(rt, &mut bench);
+#[test]
+fn a_page_is_not_cleaned_without_a_slot(rt: HostRuntime) -> Result<(), Fail> {
+    let alloc = rt.alloc();
     let calls = [
         (Call::CopyClean(0x11), Answer::NotYet),
         (
@@ -115,23 +96,20 @@ fn finds_no_slot<L: Ledger>(rt: &impl Abort, alloc: Global, blank: Blank) -> Res
         (Call::Dirty(0x11), Answer::Bit(Some(false))),
         (Call::BeginClean(0x11), Answer::Done),
     ];
-    expect(rt, &mut bench, &calls);
-    Ok(())
+    answers::<MemorySlot>(
+        &rt,
+        alloc,
+        STORES_A_BYTE,
+        Vec::new(alloc),
+        &[&BEGINS, &calls],
+    )
 }
 
 /// A store through a translation that is to be dropped holds the copy up, and one behind the copy spoils it.
-fn stores_while_it_is_cleaned<L: Ledger>(
-    rt: &impl Abort,
-    alloc: Global,
-    blank: Blank,
-) -> Result<(), Fail>
-    requires name { blank.name ≡ L.name }
-    requires parts { blank.parts ≡ L.parts }
-    requires one_each { L.parts ≡ 5 }
-{
+#[test]
+fn a_store_spoils_a_copy(rt: HostRuntime) -> Result<(), Fail> {
+    let alloc = rt.alloc();
     let slots = vec![in alloc; MemorySlot::new(alloc)?]?;
-    let mut bench: Bench<L, MemorySlot> = Bench::begin(alloc, STORES_THREE, slots, blank)?;
-    begins(rt, &mut bench);
     let calls = [
         (slice(0, 1), ran(1, SliceStop::Budget)),
         (Call::CopyClean(0x11), Answer::NotYet),
@@ -142,23 +120,14 @@ fn stores_while_it_is_cleaned<L: Ledger>(
         (Call::BeginClean(0x11), Answer::Done),
         (Call::Peek(0x1_1002), Answer::Byte(Ok(Some(5)))),
     ];
-    expect(rt, &mut bench, &calls);
-    Ok(())
+    answers(&rt, alloc, STORES_THREE, slots, &[&BEGINS, &calls])
 }
 
 /// A page leaves while its copy is out: it is let go once the copy is back.
-fn leaves_while_its_copy_is_out<L: Ledger>(
-    rt: &impl Abort,
-    alloc: Global,
-    blank: Blank,
-) -> Result<(), Fail>
-    requires name { blank.name ≡ L.name }
-    requires parts { blank.parts ≡ L.parts }
-    requires one_each { L.parts ≡ 5 }
-{
+#[test]
+fn a_page_leaves_once_its_copy_is_back(rt: HostRuntime) -> Result<(), Fail> {
+    let alloc = rt.alloc();
     let slots = vec![in alloc; MemorySlot::new(alloc)?]?;
-    let mut bench: Bench<L, MemorySlot> = Bench::begin(alloc, STORES_A_BYTE, slots, blank)?;
-    copies(rt, &mut bench);
     let calls = [
         (Call::BeginEvict(0x11), Answer::Done),
         (Call::Collect(0x11), Answer::NotYet),
@@ -167,19 +136,20 @@ fn leaves_while_its_copy_is_out<L: Ledger>(
         (Call::PageIn(0x11), Answer::Done),
         (Call::Peek(0x1_1003), Answer::Byte(Ok(Some(5)))),
     ];
-    expect(rt, &mut bench, &calls);
-    Ok(())
+    answers(
+        &rt,
+        alloc,
+        STORES_A_BYTE,
+        slots,
+        &[&BEGINS, &COPIES, &calls],
+    )
 }
 
 /// A device that fails leaves the page as it was, and changed; a failed save brings its dirty bit back as it was found, clear.
-fn fails_to_clean<L: Ledger>(rt: &impl Abort, alloc: Global, blank: Blank) -> Result<(), Fail>
-    requires name { blank.name ≡ L.name }
-    requires parts { blank.parts ≡ L.parts }
-    requires one_each { L.parts ≡ 5 }
-{
+#[test]
+fn a_device_fails_to_clean(rt: HostRuntime) -> Result<(), Fail> {
+    let alloc = rt.alloc();
     let slots = vec![in alloc; FuseSlot::new(alloc, 0)?]?;
-    let mut bench: Bench<L, FuseSlot> = Bench::begin(alloc, STORES_A_BYTE, slots, blank)?;
-    copies(rt, &mut bench);
     let calls = [
         (Call::EndClean, Answer::Device),
         (Call::Peek(0x1_1003), Answer::Byte(Ok(Some(5)))),
@@ -193,23 +163,20 @@ fn fails_to_clean<L: Ledger>(rt: &impl Abort, alloc: Global, blank: Blank) -> Re
         (Call::NextChanged(0), Answer::Word(Some(0x11))),
         (Call::Peek(0x1_1003), Answer::Byte(Ok(Some(5)))),
     ];
-    expect(rt, &mut bench, &calls);
-    Ok(())
+    answers(
+        &rt,
+        alloc,
+        STORES_A_BYTE,
+        slots,
+        &[&BEGINS, &COPIES, &calls],
+    )
 }
 
 /// The process ends while a copy is out: its page gives back what it has once the copy is back.
-fn ends_while_its_copy_is_out<L: Ledger>(
-    rt: &impl Abort,
-    alloc: Global,
-    blank: Blank,
-) -> Result<(), Fail>
-    requires name { blank.name ≡ L.name }
-    requires parts { blank.parts ≡ L.parts }
-    requires one_each { L.parts ≡ 5 }
-{
+#[test]
+fn a_copy_comes_back_to_a_process_that_ended(rt: HostRuntime) -> Result<(), Fail> {
+    let alloc = rt.alloc();
     let slots = vec![in alloc; MemorySlot::new(alloc)?]?;
-    let mut bench: Bench<L, MemorySlot> = Bench::begin(alloc, STORES_A_BYTE, slots, blank)?;
-    copies(rt, &mut bench);
     let calls = [
         (slice(0, 10), ran(3, SliceStop::Ended)),
         (
@@ -230,36 +197,11 @@ fn ends_while_its_copy_is_out<L: Ledger>(
         ),
         (Call::TakeOne, Answer::Nothing),
     ];
-    expect(rt, &mut bench, &calls);
-    Ok(())
-}
-
-#[test]
-fn a_page_that_was_cleaned_is_dropped(rt: HostRuntime) -> Result<(), Fail> {
-    drops_what_was_cleaned::<Brand>(&rt, rt.alloc(), Blank::new(5))
-}
-
-#[test]
-fn a_page_is_not_cleaned_without_a_slot(rt: HostRuntime) -> Result<(), Fail> {
-    finds_no_slot::<Brand>(&rt, rt.alloc(), Blank::new(5))
-}
-
-#[test]
-fn a_store_spoils_a_copy(rt: HostRuntime) -> Result<(), Fail> {
-    stores_while_it_is_cleaned::<Brand>(&rt, rt.alloc(), Blank::new(5))
-}
-
-#[test]
-fn a_page_leaves_once_its_copy_is_back(rt: HostRuntime) -> Result<(), Fail> {
-    leaves_while_its_copy_is_out::<Brand>(&rt, rt.alloc(), Blank::new(5))
-}
-
-#[test]
-fn a_device_fails_to_clean(rt: HostRuntime) -> Result<(), Fail> {
-    fails_to_clean::<Brand>(&rt, rt.alloc(), Blank::new(5))
-}
-
-#[test]
-fn a_copy_comes_back_to_a_process_that_ended(rt: HostRuntime) -> Result<(), Fail> {
-    ends_while_its_copy_is_out::<Brand>(&rt, rt.alloc(), Blank::new(5))
+    answers(
+        &rt,
+        alloc,
+        STORES_A_BYTE,
+        slots,
+        &[&BEGINS, &COPIES, &calls],
+    )
 }

@@ -2,7 +2,7 @@
 
 ghost use Rattle.std.specs.Prelude.{◌≡◌};
 
-use crate::bench::{Answer, Bench, Call, expect};
+use crate::bench::{Answer, Bench, Call, expect, image_of};
 use crate::paging::{ran, slice};
 use space_core::SliceStop;
 use std::alloc::Global;
@@ -27,7 +27,8 @@ fn fills_its_schedule<L: Ledger>(rt: &impl Abort, alloc: Global, blank: Blank) -
     requires one_each { L.parts ≡ 5 }
 {
     let slots = vec![in alloc; MemorySlot::new(alloc)?]?;
-    let mut bench: Bench<L, MemorySlot> = Bench::begin(alloc, SPINS, slots, blank)?;
+    let image = image_of(alloc, SPINS)?;
+    let mut bench: Bench<L, MemorySlot> = Bench::begin(alloc, image, slots, blank)?;
     let first = [
         (Call::PageIn(0x10), Answer::Done),
         (slice(0, 5), ran(5, SliceStop::Budget)),

@@ -1,15 +1,9 @@
 //! A process whose pages are brought in, evicted, saved and brought back.
 
-ghost use Rattle.std.specs.Prelude.{◌≡◌};
-
-use crate::bench::{Answer, Bench, Call, expect};
+use crate::bench::{Answer, Call, answers};
 use page_store::PageState;
 use paged_memory::PeekFault;
 use space_core::{Slice, SliceStop};
-use std::alloc::Global;
-use std::marker::Brand;
-use std::process::Abort;
-use std::sync::ledger::{Blank, Ledger};
 use std::test::Fail;
 use swap_slots::{FuseSlot, MemorySlot};
 use test_guests::STORES_A_BYTE;
@@ -46,13 +40,10 @@ const GIVEN: Answer = Answer::Given {
     slot: false,
 };
 
-fn runs_over_two_pages<L: Ledger>(rt: &impl Abort, alloc: Global, blank: Blank) -> Result<(), Fail>
-    requires name { blank.name ≡ L.name }
-    requires parts { blank.parts ≡ L.parts }
-    requires one_each { L.parts ≡ 5 }
-{
+#[test]
+fn a_process_runs_over_two_pages(rt: HostRuntime) -> Result<(), Fail> {
+    let alloc = rt.alloc();
     let slots = vec![in alloc; MemorySlot::new(alloc)?]?;
-    let mut bench: Bench<L, MemorySlot> = Bench::begin(alloc, STORES_A_BYTE, slots, blank)?;
     let calls = [
         (Call::State(0x10), Answer::State(Some(PageState::Fresh))),
         (Call::State(0x12), Answer::State(None)),
@@ -72,22 +63,14 @@ fn runs_over_two_pages<L: Ledger>(rt: &impl Abort, alloc: Global, blank: Blank) 
             Answer::Byte(Err(PeekFault::NotMapped)),
         ),
     ];
-    expect(rt, &mut bench, &calls);
-    Ok(())
+    answers(&rt, alloc, STORES_A_BYTE, slots, &[&calls])
 }
 
 /// A page leaves while a hart's cache holds it: until its notices are taken, the hart stores by its cache.
-fn stores_while_it_leaves<L: Ledger>(
-    rt: &impl Abort,
-    alloc: Global,
-    blank: Blank,
-) -> Result<(), Fail>
-    requires name { blank.name ≡ L.name }
-    requires parts { blank.parts ≡ L.parts }
-    requires one_each { L.parts ≡ 5 }
-{
+#[test]
+fn a_hart_stores_while_its_page_leaves(rt: HostRuntime) -> Result<(), Fail> {
+    let alloc = rt.alloc();
     let slots = vec![in alloc; MemorySlot::new(alloc)?]?;
-    let mut bench: Bench<L, MemorySlot> = Bench::begin(alloc, STORES_TWICE, slots, blank)?;
     let calls = [
         (Call::PageIn(0x10), Answer::Done),
         (Call::PageIn(0x11), Answer::Done),
@@ -112,11 +95,10 @@ fn stores_while_it_leaves<L: Ledger>(
             Answer::Word(Some(7)),
         ),
     ];
-    expect(rt, &mut bench, &calls);
-    Ok(())
+    answers(&rt, alloc, STORES_TWICE, slots, &[&calls])
 }
 
-/// A page is evicted and comes back between LR.W and SC.W, which stores all the same.
+/// Loads and reserves the word in its page of data, 0x11, and stores 7 in its place.
 const RESERVES: &str = "        la   s0, buf
         lr.w t0, (s0)
         li   t1, 7
@@ -127,17 +109,11 @@ end:    j    end
 buf:    .word 5
 ";
 
-fn reserves_over_an_eviction<L: Ledger>(
-    rt: &impl Abort,
-    alloc: Global,
-    blank: Blank,
-) -> Result<(), Fail>
-    requires name { blank.name ≡ L.name }
-    requires parts { blank.parts ≡ L.parts }
-    requires one_each { L.parts ≡ 5 }
-{
+/// A page is evicted and comes back between LR.W and SC.W, which stores all the same.
+#[test]
+fn a_reservation_outlasts_an_eviction(rt: HostRuntime) -> Result<(), Fail> {
+    let alloc = rt.alloc();
     let slots = vec![in alloc; MemorySlot::new(alloc)?]?;
-    let mut bench: Bench<L, MemorySlot> = Bench::begin(alloc, RESERVES, slots, blank)?;
     let calls = [
         (Call::PageIn(0x10), Answer::Done),
         (Call::PageIn(0x11), Answer::Done),
@@ -157,18 +133,14 @@ fn reserves_over_an_eviction<L: Ledger>(
         ),
         (Call::Peek(0x1_1000), Answer::Byte(Ok(Some(7)))),
     ];
-    expect(rt, &mut bench, &calls);
-    Ok(())
+    answers(&rt, alloc, RESERVES, slots, &[&calls])
 }
 
 /// An unchanged page needs no slot, however often it comes and goes, and shows the image's bytes.
-fn drops_a_clean_page<L: Ledger>(rt: &impl Abort, alloc: Global, blank: Blank) -> Result<(), Fail>
-    requires name { blank.name ≡ L.name }
-    requires parts { blank.parts ≡ L.parts }
-    requires one_each { L.parts ≡ 5 }
-{
+#[test]
+fn an_unchanged_page_is_dropped(rt: HostRuntime) -> Result<(), Fail> {
+    let alloc = rt.alloc();
     let slots = vec![in alloc; MemorySlot::new(alloc)?]?;
-    let mut bench: Bench<L, MemorySlot> = Bench::begin(alloc, STORES_A_BYTE, slots, blank)?;
     let calls = [
         (Call::PageIn(0x10), Answer::Done),
         (slice(0, 1), ran(1, SliceStop::Budget)),
@@ -181,24 +153,14 @@ fn drops_a_clean_page<L: Ledger>(rt: &impl Abort, alloc: Global, blank: Blank) -
         (Call::Peek(0x1_0000), Answer::Byte(Ok(Some(0x37)))),
         (Call::Peek(0x1_0001), Answer::Byte(Ok(Some(0x14)))),
     ];
-    for _ in 0..2 {
-        expect(rt, &mut bench, &calls);
-    }
-    Ok(())
+    answers(&rt, alloc, STORES_A_BYTE, slots, &[&calls, &calls])
 }
 
 /// A page whose device fails to save it stays in its frame.
-fn keeps_what_is_not_saved<L: Ledger>(
-    rt: &impl Abort,
-    alloc: Global,
-    blank: Blank,
-) -> Result<(), Fail>
-    requires name { blank.name ≡ L.name }
-    requires parts { blank.parts ≡ L.parts }
-    requires one_each { L.parts ≡ 5 }
-{
+#[test]
+fn a_page_that_is_not_saved_stays(rt: HostRuntime) -> Result<(), Fail> {
+    let alloc = rt.alloc();
     let slots = vec![in alloc; FuseSlot::new(alloc, 0)?]?;
-    let mut bench: Bench<L, FuseSlot> = Bench::begin(alloc, STORES_A_BYTE, slots, blank)?;
     let calls = [
         (Call::PageIn(0x10), Answer::Done),
         (Call::PageIn(0x11), Answer::Done),
@@ -212,31 +174,5 @@ fn keeps_what_is_not_saved<L: Ledger>(
         (Call::State(0x11), Answer::State(Some(PageState::Resident))),
         (Call::Peek(0x1_1003), Answer::Byte(Ok(Some(5)))),
     ];
-    expect(rt, &mut bench, &calls);
-    Ok(())
-}
-
-#[test]
-fn a_process_runs_over_two_pages(rt: HostRuntime) -> Result<(), Fail> {
-    runs_over_two_pages::<Brand>(&rt, rt.alloc(), Blank::new(5))
-}
-
-#[test]
-fn a_hart_stores_while_its_page_leaves(rt: HostRuntime) -> Result<(), Fail> {
-    stores_while_it_leaves::<Brand>(&rt, rt.alloc(), Blank::new(5))
-}
-
-#[test]
-fn a_reservation_outlasts_an_eviction(rt: HostRuntime) -> Result<(), Fail> {
-    reserves_over_an_eviction::<Brand>(&rt, rt.alloc(), Blank::new(5))
-}
-
-#[test]
-fn an_unchanged_page_is_dropped(rt: HostRuntime) -> Result<(), Fail> {
-    drops_a_clean_page::<Brand>(&rt, rt.alloc(), Blank::new(5))
-}
-
-#[test]
-fn a_page_that_is_not_saved_stays(rt: HostRuntime) -> Result<(), Fail> {
-    keeps_what_is_not_saved::<Brand>(&rt, rt.alloc(), Blank::new(5))
+    answers(&rt, alloc, STORES_A_BYTE, slots, &[&calls])
 }

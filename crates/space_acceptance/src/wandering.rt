@@ -114,9 +114,10 @@ fn begin_pair<L: Ledger>(alloc: Global, blank: Blank) -> Result<Pair<L>, Fail>
     requires parts { blank.parts ≡ L.parts }
     requires one_each { L.parts ≡ 5 }
 {
+    let image = image_of(alloc, WANDERS)?;
     let slots = memory_slots(alloc)?;
     Ok(Pair {
-        bench: Bench::begin(alloc, WANDERS, slots, blank)?,
+        bench: Bench::begin(alloc, image, slots, blank)?,
         flat: begin_flat(alloc)?,
         steps: 0,
         saves: 0,

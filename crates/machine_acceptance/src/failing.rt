@@ -2,8 +2,8 @@
 
 ghost use Rattle.std.specs.Prelude.{◌≡◌};
 
-use crate::image::image_of;
-use clock_policy::{EntryKind, Key};
+use crate::machine::{CODE, DATA, NOTICE, STEP, asked, begun, byte_at, expect};
+use clock_policy::EntryKind;
 use clock_ring::ClockRing;
 use machine_core::{Core, Event, EventRefusal, Reply};
 use page_store::PageState;
@@ -15,21 +15,6 @@ use std::test::Fail;
 use swap_slots::{FuseSlot, SwapSlot};
 use test_guests::STORES_A_BYTE;
 use test_slots::{BlinkSlot, FlipSlot};
-
-const STEP: Event = Event::Step {
-    process: 0,
-    hart: 0,
-};
-
-const CODE: Key = Key {
-    process: 0,
-    vpn: 0x10,
-};
-
-const DATA: Key = Key {
-    process: 0,
-    vpn: 0x11,
-};
 
 /// A machine of four frames, with this slot, whose process has stored its byte. Both pages are swept out, and the page of data is to
 /// be saved.
@@ -43,39 +28,21 @@ fn swept<L: Ledger, S: SwapSlot>(
     requires parts { blank.parts ≡ L.parts }
     requires one_each { L.parts ≡ 5 }
 {
-    let mut starts = Vec::new(alloc);
-    starts.push((image_of(alloc, STORES_A_BYTE)?, Vec::new(alloc)))?;
     let mut slots = Vec::new(alloc);
     slots.push(slot)?;
-    let mut core: Core<L, S, ClockRing> = Core::new(alloc, 4, blank, slots, starts).map_err(
-        |_| "no machine",
-    )?;
-    let asked = |key, used| Reply::Asked { key, used };
-    for (event, reply) in [
-        (Event::PageIn(CODE), Reply::Mapped),
-        (Event::PageIn(DATA), Reply::Mapped),
-        (STEP, Reply::Ran),
-        (STEP, Reply::Ran),
-        (STEP, Reply::Ran),
-        (STEP, Reply::Ran),
+    let mut core: Core<L, S, ClockRing> = begun(rt, alloc, STORES_A_BYTE, slots, blank)?;
+    let events = [
         (Event::Sweep, asked(CODE, true)),
         (Event::Sweep, asked(DATA, true)),
         (Event::Sweep, asked(CODE, false)),
         (Event::Sweep, Reply::Victim(CODE)),
-        (
-            Event::Notice {
-                process: 0,
-                hart: 0,
-            },
-            Reply::Noticed,
-        ),
+        (NOTICE, Reply::Noticed),
         (Event::Collect(CODE), Reply::Freed),
         (Event::Sweep, asked(DATA, false)),
         (Event::Sweep, Reply::Victim(DATA)),
         (Event::Collect(DATA), Reply::Dirty),
-    ] {
-        assert_eq!(rt; core.apply(event), reply);
-    }
+    ];
+    expect(rt, &mut core, &events);
     Ok(core)
 }
 
@@ -93,24 +60,19 @@ fn kind_of_data<L: Ledger, S: SwapSlot>(core: &Core<L, S, ClockRing>) -> Option<
 
 /// The byte that was stored, as the machine shows it.
 fn stored<L: Ledger, S: SwapSlot>(core: &mut Core<L, S, ClockRing>) -> Option<u8> {
-    let mut bytes = [None];
-    match core.peek(0, 0x1_1003, &mut bytes) {
-        Some(Ok(())) => bytes[0],
-        _ => None,
-    }
+    byte_at(core, 0x1_1003)
 }
 
 /// The pages are brought in, and the process runs to its end.
 fn runs_on<L: Ledger, S: SwapSlot>(rt: &impl Abort, core: &mut Core<L, S, ClockRing>) {
-    for (event, reply) in [
+    let events = [
         (Event::PageIn(CODE), Reply::Mapped),
         (Event::PageIn(DATA), Reply::Mapped),
         (STEP, Reply::Ran),
         (STEP, Reply::Ran),
         (STEP, Reply::Ended),
-    ] {
-        assert_eq!(rt; core.apply(event), reply);
-    }
+    ];
+    expect(rt, core, &events);
     assert_eq!(rt; stored(core), Some(5));
 }
 
@@ -142,14 +104,13 @@ fn is_saved_again<L: Ledger>(rt: &impl Abort, alloc: Global, blank: Blank) -> Re
 {
     let slot = BlinkSlot::new(alloc, 1)?;
     let mut core: Core<L, BlinkSlot, ClockRing> = swept(rt, alloc, slot, blank)?;
-    for (event, reply) in [
+    let events = [
         (Event::Saved(DATA), Reply::Device),
         (Event::Sweep, Reply::Victim(DATA)),
         (Event::Collect(DATA), Reply::Dirty),
         (Event::Saved(DATA), Reply::Freed),
-    ] {
-        assert_eq!(rt; core.apply(event), reply);
-    }
+    ];
+    expect(rt, &mut core, &events);
     assert_eq!(rt; core.state(0, DATA.vpn), Some(PageState::Away));
     runs_on(rt, &mut core);
     Ok(())

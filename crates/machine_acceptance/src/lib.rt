@@ -9,6 +9,6 @@ mod event_lines;
 #[cfg(test)]
 mod failing;
 #[cfg(test)]
-mod image;
+mod machine;
 #[cfg(test)]
 mod wandering;

@@ -2,7 +2,7 @@
 
 ghost use Rattle.std.specs.Prelude.{◌≡◌, ◌<◌, ◌^◌};
 
-use crate::image::image_of;
+use crate::machine::image_of;
 use clock_policy::Key;
 use clock_ring::ClockRing;
 use flat_machine::{FlatProcess, KillCause};

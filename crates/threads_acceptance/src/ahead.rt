@@ -1,9 +1,9 @@
 //! Machines that write changed pages ahead.
 
-use crate::guests::COUNTS;
-use crate::machine::{Size, expect, played, played_ahead, sound_slots};
+use crate::machine::{Setting, expect, played, played_sum, sound_slots};
+use crate::sharing::{ON_FOUR_FRAMES, RUNS, played_by_three};
 use clock_policy::Key;
-use reclaim_daemon::{Gate, OpenGate};
+use reclaim_daemon::Gate;
 use status_cell::Status;
 use std::sync::atomic::{AtomicU64, Ordering};
 use std::test::Fail;
@@ -49,41 +49,31 @@ fn a_page_is_written_while_it_stays(rt: HostRuntime) -> Result<(), Fail> {
         rt: &rt,
         saves: AtomicU64::new(0),
     };
-    let size = Size {
+    let setting = Setting {
         frames: 64,
         workers: 1,
         slice: 10,
+        ahead: true,
     };
     let slots = sound_slots(alloc, 100)?;
-    let run = played_ahead(&rt, alloc, size, slots, &[WRITES_A_SUM], &gate)?;
+    let run = played(&rt, alloc, setting, slots, &[WRITES_A_SUM], &gate)?;
     expect(&rt, &run, &[(0, 114, b"B")]);
     assert!(rt; gate.saves.load(Ordering::SeqCst) != 0);
     assert_eq!(rt; run.report.victims, 0);
     Ok(())
 }
 
-/// How often a machine is run, since its threads meet otherwise each time.
-const RUNS: u32 = 25;
-
-const ON_FOUR_FRAMES: Size = Size {
+const AHEAD_ON_FOUR_FRAMES: Setting = Setting {
     frames: 4,
     workers: 4,
     slice: 1000,
+    ahead: true,
 };
 
 #[test]
 fn processes_share_four_frames_that_are_cleaned(rt: HostRuntime) -> Result<(), Fail> {
-    let alloc = rt.alloc();
-    let sources = [COUNTS, COUNTS, WRITES_A_SUM];
     for _ in 0..RUNS {
-        let slots = sound_slots(alloc, 32)?;
-        let run = played_ahead(&rt, alloc, ON_FOUR_FRAMES, slots, &sources, &OpenGate)?;
-        expect(
-            &rt,
-            &run,
-            &[(2000, 6027, b""), (2000, 6027, b""), (0, 114, b"B")],
-        );
-        assert!(rt; run.report.page_ins >= 16 && run.report.victims >= 8);
+        let run = played_by_three(&rt, rt.alloc(), AHEAD_ON_FOUR_FRAMES)?;
         assert!(rt; matches!(run.cleans, Some(cleans) if cleans <= run.report.page_ins));
     }
     Ok(())
@@ -93,14 +83,7 @@ fn processes_share_four_frames_that_are_cleaned(rt: HostRuntime) -> Result<(), F
 fn no_page_is_cleaned_unasked(rt: HostRuntime) -> Result<(), Fail> {
     let alloc = rt.alloc();
     let slots = sound_slots(alloc, 32)?;
-    let run = played(
-        &rt,
-        alloc,
-        ON_FOUR_FRAMES,
-        slots,
-        &[WRITES_A_SUM],
-        &OpenGate,
-    )?;
+    let run = played_sum(&rt, alloc, ON_FOUR_FRAMES, slots)?;
     assert_eq!(rt; run.cleans, None);
     Ok(())
 }

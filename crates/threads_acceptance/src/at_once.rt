@@ -1,7 +1,7 @@
 //! Two processes run at the same time, also while one of them loads a page: neither holds a lock that the other one needs.
 
 use crate::guests::{FITS, FITS_STEPS, FITS_STORED};
-use crate::machine::{Size, expect, played, sound_slots};
+use crate::machine::{Setting, expect, played, sound_slots};
 use clock_policy::Key;
 use reclaim_daemon::Gate;
 use status_cell::Status;
@@ -177,16 +177,17 @@ fn two_processes_run_at_the_same_time(rt: HostRuntime) -> Result<(), Fail> {
         one: AtomicU64::new(0),
         missed: AtomicU64::new(0),
     };
-    let size = Size {
+    let setting = Setting {
         frames: 64,
         workers: 2,
         slice: 1000,
+        ahead: false,
     };
     let slots = sound_slots(alloc, 4)?;
     let report = played(
         &rt,
         alloc,
-        size,
+        setting,
         slots,
         &[STORES_A_BYTE, STORES_A_BYTE],
         &gate,
@@ -206,16 +207,17 @@ fn a_process_runs_while_another_loads(rt: HostRuntime) -> Result<(), Fail> {
         ran: AtomicU64::new(0),
         missed: AtomicU64::new(0),
     };
-    let size = Size {
+    let setting = Setting {
         frames: 64,
         workers: 2,
         slice: 10,
+        ahead: false,
     };
     let slots = sound_slots(alloc, 4)?;
     let report = played(
         &rt,
         alloc,
-        size,
+        setting,
         slots,
         &[WRITES_A_SUM, WRITES_A_SUM],
         &gate,
@@ -241,13 +243,14 @@ fn a_process_runs_while_a_page_of_another_is_saved(rt: HostRuntime) -> Result<()
         ran: AtomicU64::new(0),
         missed: AtomicU64::new(0),
     };
-    let size = Size {
+    let setting = Setting {
         frames: 65,
         workers: 2,
         slice: 1000,
+        ahead: false,
     };
     let slots = sound_slots(alloc, 70)?;
-    let report = played(&rt, alloc, size, slots, &[FITS, STORES_A_BYTE], &gate)?;
+    let report = played(&rt, alloc, setting, slots, &[FITS, STORES_A_BYTE], &gate)?;
     expect(&rt, &report, &[(0, FITS_STEPS, b""), (0, 7, b"")]);
     assert_eq!(rt; gate.missed.load(Ordering::SeqCst), 0);
     Ok(())

@@ -1,20 +1,20 @@
 //! Processes on slots that fail once, or lie once.
 
 use crate::guests::SPINS;
-use crate::machine::{Size, expect, played, sound_slots};
+use crate::machine::{Setting, expect, played, played_sum, sound_slots};
 use flat_machine::{End, KillCause};
 use machine_sides::Report;
 use reclaim_daemon::OpenGate;
 use std::process::Abort;
 use std::test::Fail;
 use swap_slots::FuseSlot;
-use test_guests::WRITES_A_SUM;
 use test_slots::{BlinkSlot, FlipSlot};
 
-const ON_FOUR_FRAMES: Size = Size {
+const ON_FOUR_FRAMES: Setting = Setting {
     frames: 4,
     workers: 2,
     slice: 1000,
+    ahead: false,
 };
 
 /// The first call of a slot is a save, the second a load. At most four of the eleven pages that the guest changes are in frames at a
@@ -27,14 +27,7 @@ fn slots_that_fail_once_end_no_process(rt: HostRuntime) -> Result<(), Fail> {
         for _ in 0..11 {
             slots.push(BlinkSlot::new(alloc, failing)?)?;
         }
-        let run = played(
-            &rt,
-            alloc,
-            ON_FOUR_FRAMES,
-            slots,
-            &[WRITES_A_SUM],
-            &OpenGate,
-        )?;
+        let run = played_sum(&rt, alloc, ON_FOUR_FRAMES, slots)?;
         expect(&rt, &run, &[(0, 114, b"B")]);
         assert!(rt; run.report.saves >= 7, "call {failing}");
     }
@@ -48,14 +41,7 @@ fn a_damaged_page_ends_its_process(rt: HostRuntime) -> Result<(), Fail> {
     for _ in 0..11 {
         slots.push(FlipSlot::new(alloc, 1)?)?;
     }
-    let run = played(
-        &rt,
-        alloc,
-        ON_FOUR_FRAMES,
-        slots,
-        &[WRITES_A_SUM],
-        &OpenGate,
-    )?;
+    let run = played_sum(&rt, alloc, ON_FOUR_FRAMES, slots)?;
     expect_killed(&rt, &run.report, KillCause::Damaged);
     Ok(())
 }
@@ -74,14 +60,7 @@ fn expect_killed(rt: &impl Abort, report: &Report, cause: KillCause) {
 fn a_process_without_slots_is_ended(rt: HostRuntime) -> Result<(), Fail> {
     let alloc = rt.alloc();
     let slots = sound_slots(alloc, 0)?;
-    let run = played(
-        &rt,
-        alloc,
-        ON_FOUR_FRAMES,
-        slots,
-        &[WRITES_A_SUM],
-        &OpenGate,
-    )?;
+    let run = played_sum(&rt, alloc, ON_FOUR_FRAMES, slots)?;
     expect_killed(&rt, &run.report, KillCause::NoSwap);
     for process in run.report.processes.iter() {
         assert_eq!(rt; process.steps, 16);
@@ -97,14 +76,7 @@ fn a_page_that_cannot_be_loaded_ends_its_process(rt: HostRuntime) -> Result<(), 
     for _ in 0..11 {
         slots.push(FuseSlot::new(alloc, 1)?)?;
     }
-    let run = played(
-        &rt,
-        alloc,
-        ON_FOUR_FRAMES,
-        slots,
-        &[WRITES_A_SUM],
-        &OpenGate,
-    )?;
+    let run = played_sum(&rt, alloc, ON_FOUR_FRAMES, slots)?;
     expect_killed(&rt, &run.report, KillCause::LoadFailed);
     Ok(())
 }
@@ -113,13 +85,14 @@ fn a_page_that_cannot_be_loaded_ends_its_process(rt: HostRuntime) -> Result<(), 
 #[test]
 fn a_full_schedule_ends_its_process(rt: HostRuntime) -> Result<(), Fail> {
     let alloc = rt.alloc();
-    let size = Size {
+    let setting = Setting {
         frames: 64,
         workers: 1,
         slice: 1,
+        ahead: false,
     };
     let slots = sound_slots(alloc, 0)?;
-    let run = played(&rt, alloc, size, slots, &[SPINS], &OpenGate)?;
+    let run = played(&rt, alloc, setting, slots, &[SPINS], &OpenGate)?;
     expect_killed(&rt, &run.report, KillCause::ScheduleFull);
     for process in run.report.processes.iter() {
         assert_eq!(rt; process.steps, 1_000_004);

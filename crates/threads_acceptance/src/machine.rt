@@ -6,7 +6,7 @@ use clock_ring::ClockRing;
 use elf_image::Image;
 use flat_machine::End;
 use hart_carriers::{CrewRequest, RunReport, run_machine};
-use reclaim_daemon::Gate;
+use reclaim_daemon::{Gate, OpenGate};
 use rv_asm::assemble;
 use std::alloc::{AllocError, Global};
 use std::process::Abort;
@@ -14,13 +14,16 @@ use std::sync::Wait;
 use std::test::Fail;
 use std::thread::Threads;
 use swap_slots::{MemorySlot, SwapSlot};
+use test_guests::WRITES_A_SUM;
 
-/// How a machine is run: on so many frames, by so many workers, in slices of so many instructions.
+/// How a machine is run: on so many frames, by so many workers, in slices of so many instructions,
+/// and whether it writes changed pages ahead.
 #[derive(Clone, Copy)]
-pub(crate) struct Size {
+pub(crate) struct Setting {
     pub frames: u32,
     pub workers: u32,
     pub slice: u32,
+    pub ahead: bool,
 }
 
 /// How a process ended by itself: its exit status, how many instructions it ran, and what it wrote.
@@ -41,57 +44,28 @@ pub(crate) fn sound_slots(alloc: Global, count: u32) -> Result<Vec<MemorySlot>, 
     Ok(slots)
 }
 
-/// What a machine has come to whose processes run these sources, on no input, and which writes no page ahead.
+/// What a machine has come to whose processes run these sources, on no input.
 pub(crate) fn played<S: SwapSlot + Send, G: Gate + Sync, R: Threads + Wait + Sync>(
     rt: &R,
     alloc: Global,
-    size: Size,
+    setting: Setting,
     slots: Vec<S>,
     sources: &[&str],
     gate: &G,
 ) -> Result<RunReport, Fail>
-    requires workers { 0 < size.workers }
-    requires slice { 0 < size.slice }
-{
-    played_by(rt, alloc, size, slots, sources, false, gate)
-}
-
-/// The same of one that writes changed pages ahead.
-pub(crate) fn played_ahead<S: SwapSlot + Send, G: Gate + Sync, R: Threads + Wait + Sync>(
-    rt: &R,
-    alloc: Global,
-    size: Size,
-    slots: Vec<S>,
-    sources: &[&str],
-    gate: &G,
-) -> Result<RunReport, Fail>
-    requires workers { 0 < size.workers }
-    requires slice { 0 < size.slice }
-{
-    played_by(rt, alloc, size, slots, sources, true, gate)
-}
-
-fn played_by<S: SwapSlot + Send, G: Gate + Sync, R: Threads + Wait + Sync>(
-    rt: &R,
-    alloc: Global,
-    size: Size,
-    slots: Vec<S>,
-    sources: &[&str],
-    ahead: bool,
-    gate: &G,
-) -> Result<RunReport, Fail>
-    requires workers { 0 < size.workers }
-    requires slice { 0 < size.slice }
+    requires workers { 0 < setting.workers }
+    requires slice { 0 < setting.slice }
 {
     let mut handed = Vec::new(alloc);
     for source in sources {
         handed.push((image_of(alloc, source)?, Vec::new(alloc)))?;
     }
-    let Size {
+    let Setting {
         frames,
         workers,
         slice,
-    } = size;
+        ahead,
+    } = setting;
     Ok(run_machine::<S, ClockRing, G, R>(
         rt,
         alloc,
@@ -105,6 +79,19 @@ fn played_by<S: SwapSlot + Send, G: Gate + Sync, R: Threads + Wait + Sync>(
         },
         gate,
     )?)
+}
+
+/// The same of one process that writes a sum.
+pub(crate) fn played_sum<S: SwapSlot + Send, R: Threads + Wait + Sync>(
+    rt: &R,
+    alloc: Global,
+    setting: Setting,
+    slots: Vec<S>,
+) -> Result<RunReport, Fail>
+    requires workers { 0 < setting.workers }
+    requires slice { 0 < setting.slice }
+{
+    played(rt, alloc, setting, slots, &[WRITES_A_SUM], &OpenGate)
 }
 
 /// Each process has ended by itself as is told.

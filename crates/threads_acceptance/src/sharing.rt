@@ -1,18 +1,26 @@
 //! Processes that need more pages than there are frames.
 
+ghost use Rattle.std.specs.Prelude.{◌<◌};
+
 use crate::guests::COUNTS;
-use crate::machine::{Size, expect, played, sound_slots};
+use crate::machine::{Setting, expect, played, played_sum, sound_slots};
+use hart_carriers::RunReport;
 use reclaim_daemon::OpenGate;
+use std::alloc::Global;
+use std::process::Abort;
+use std::sync::Wait;
 use std::test::Fail;
+use std::thread::Threads;
 use test_guests::WRITES_A_SUM;
 
 /// How often a machine is run, since its threads meet otherwise each time.
-const RUNS: u32 = 25;
+pub(crate) const RUNS: u32 = 25;
 
-const ON_FOUR_FRAMES: Size = Size {
+pub(crate) const ON_FOUR_FRAMES: Setting = Setting {
     frames: 4,
     workers: 4,
     slice: 1000,
+    ahead: false,
 };
 
 #[test]
@@ -20,33 +28,38 @@ fn a_process_pages_on_four_frames(rt: HostRuntime) -> Result<(), Fail> {
     let alloc = rt.alloc();
     for _ in 0..RUNS {
         let slots = sound_slots(alloc, 12)?;
-        let run = played(
-            &rt,
-            alloc,
-            ON_FOUR_FRAMES,
-            slots,
-            &[WRITES_A_SUM],
-            &OpenGate,
-        )?;
+        let run = played_sum(&rt, alloc, ON_FOUR_FRAMES, slots)?;
         expect(&rt, &run, &[(0, 114, b"B")]);
         assert!(rt; run.report.page_ins >= 12 && run.report.victims >= 8);
     }
     Ok(())
 }
 
+/// Three processes come to what each comes to alone, and their pages come and go.
+pub(crate) fn played_by_three<R: Threads + Wait + Sync + Abort>(
+    rt: &R,
+    alloc: Global,
+    setting: Setting,
+) -> Result<RunReport, Fail>
+    requires workers { 0 < setting.workers }
+    requires slice { 0 < setting.slice }
+{
+    let slots = sound_slots(alloc, 32)?;
+    let sources = [COUNTS, COUNTS, WRITES_A_SUM];
+    let run = played(rt, alloc, setting, slots, &sources, &OpenGate)?;
+    expect(
+        rt,
+        &run,
+        &[(2000, 6027, b""), (2000, 6027, b""), (0, 114, b"B")],
+    );
+    assert!(rt; run.report.page_ins >= 16 && run.report.victims >= 8);
+    Ok(run)
+}
+
 #[test]
 fn processes_share_four_frames(rt: HostRuntime) -> Result<(), Fail> {
-    let alloc = rt.alloc();
-    let sources = [COUNTS, COUNTS, WRITES_A_SUM];
     for _ in 0..RUNS {
-        let slots = sound_slots(alloc, 32)?;
-        let run = played(&rt, alloc, ON_FOUR_FRAMES, slots, &sources, &OpenGate)?;
-        expect(
-            &rt,
-            &run,
-            &[(2000, 6027, b""), (2000, 6027, b""), (0, 114, b"B")],
-        );
-        assert!(rt; run.report.page_ins >= 16 && run.report.victims >= 8);
+        played_by_three(&rt, rt.alloc(), ON_FOUR_FRAMES)?;
     }
     Ok(())
 }

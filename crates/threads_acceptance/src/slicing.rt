@@ -1,17 +1,18 @@
 //! How long slices are.
 
 use crate::guests::COUNTS;
-use crate::machine::{Size, expect, played, sound_slots};
+use crate::machine::{Setting, expect, played, sound_slots};
 use clock_policy::Key;
 use reclaim_daemon::Gate;
 use status_cell::Status;
 use std::sync::atomic::{AtomicU64, Ordering};
 use std::test::Fail;
 
-const SIZE: Size = Size {
+const SETTING: Setting = Setting {
     frames: 64,
     workers: 2,
     slice: 10,
+    ahead: false,
 };
 
 /// Counts the slices that are as long as one may be, and those that are longer.
@@ -27,10 +28,10 @@ impl Gate for Lengths {
     fn before_load(&self, _key: Key) {}
 
     fn after_slice(&self, _process: u32, _hart: u32, ran: u32) {
-        if ran == SIZE.slice {
+        if ran == SETTING.slice {
             self.whole.fetch_add(1, Ordering::SeqCst);
         }
-        if ran > SIZE.slice {
+        if ran > SETTING.slice {
             self.longer.fetch_add(1, Ordering::SeqCst);
         }
     }
@@ -46,7 +47,7 @@ fn the_longest_slices_are_as_long_as_was_asked_for(rt: HostRuntime) -> Result<()
         longer: AtomicU64::new(0),
     };
     let slots = sound_slots(alloc, 4)?;
-    let run = played(&rt, alloc, SIZE, slots, &[COUNTS], &gate)?;
+    let run = played(&rt, alloc, SETTING, slots, &[COUNTS], &gate)?;
     expect(&rt, &run, &[(2000, 6027, b"")]);
     assert!(rt; gate.whole.load(Ordering::SeqCst) != 0);
     assert_eq!(rt; gate.longer.load(Ordering::SeqCst), 0);

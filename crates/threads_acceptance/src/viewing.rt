@@ -1,6 +1,6 @@
 //! The daemon looks at how far processes have come, each time that a frame has come free.
 
-use crate::machine::{Size, expect, played, sound_slots};
+use crate::machine::{Setting, expect, played, sound_slots};
 use clock_policy::Key;
 use reclaim_daemon::Gate;
 use status_cell::Status;
@@ -11,10 +11,11 @@ use test_guests::WRITES_A_SUM;
 /// How often a machine is run, since its threads meet otherwise each time.
 const RUNS: u32 = 10;
 
-const SIZE: Size = Size {
+const SETTING: Setting = Setting {
     frames: 4,
     workers: 2,
     slice: 10,
+    ahead: false,
 };
 
 /// What was seen of a process: the pair that was seen last, how often it had risen, and how often one of its numbers had fallen.
@@ -89,7 +90,7 @@ fn the_pairs_of_two_processes_rise(rt: HostRuntime) -> Result<(), Fail> {
         let run = played(
             &rt,
             alloc,
-            SIZE,
+            SETTING,
             slots,
             &[WRITES_A_SUM, WRITES_A_SUM],
             &gate,

@@ -2,7 +2,7 @@
 //! sleep for a minute.
 
 use crate::guests::{FITS, FITS_STEPS, TAKES_TURNS, TAKES_TURNS_STEPS};
-use crate::machine::{Size, expect, played, sound_slots};
+use crate::machine::{Setting, expect, played, sound_slots};
 use flat_machine::End;
 use reclaim_daemon::OpenGate;
 use std::test::Fail;
@@ -12,13 +12,14 @@ use std::test::Fail;
 fn a_program_whose_pages_fit_ends_without_slots(rt: HostRuntime) -> Result<(), Fail> {
     let alloc = rt.alloc();
     for workers in [1, 4] {
-        let size = Size {
+        let setting = Setting {
             frames: 64,
             workers,
             slice: 1000,
+            ahead: false,
         };
         let slots = sound_slots(alloc, 0)?;
-        let run = played(&rt, alloc, size, slots, &[FITS], &OpenGate)?;
+        let run = played(&rt, alloc, setting, slots, &[FITS], &OpenGate)?;
         expect(&rt, &run, &[(0, FITS_STEPS, b"")]);
         assert!(rt; run.report.victims < 100, "{} victims", run.report.victims);
     }
@@ -31,13 +32,14 @@ fn harts_that_yield_wait_for_the_others(rt: HostRuntime) -> Result<(), Fail> {
     let alloc = rt.alloc();
     for frames in [4, 16, 64] {
         for workers in [1, 2, 4, 8] {
-            let size = Size {
+            let setting = Setting {
                 frames,
                 workers,
                 slice: 1000,
+                ahead: false,
             };
             let slots = sound_slots(alloc, 64)?;
-            let run = played(&rt, alloc, size, slots, &[TAKES_TURNS], &OpenGate)?;
+            let run = played(&rt, alloc, setting, slots, &[TAKES_TURNS], &OpenGate)?;
             assert!(rt; run.report.audit);
             for process in run.report.processes.iter() {
                 assert_eq!(rt; process.end, Some(End::Exited(3200)));
@@ -55,14 +57,15 @@ fn harts_that_yield_wait_for_the_others(rt: HostRuntime) -> Result<(), Fail> {
 #[test]
 fn eight_processes_of_eight_harts_share_sixteen_frames(rt: HostRuntime) -> Result<(), Fail> {
     let alloc = rt.alloc();
-    let size = Size {
+    let setting = Setting {
         frames: 16,
         workers: 8,
         slice: 1000,
+        ahead: false,
     };
     let slots = sound_slots(alloc, 256)?;
     let sources = [TAKES_TURNS; 8];
-    let run = played(&rt, alloc, size, slots, &sources, &OpenGate)?;
+    let run = played(&rt, alloc, setting, slots, &sources, &OpenGate)?;
     assert!(rt; run.report.audit);
     assert_eq!(rt; run.report.processes.len(), 8);
     for process in run.report.processes.iter() {

@@ -3,20 +3,7 @@
 use elf_image::{Image, read_elf, write_elf};
 use std::alloc::Global;
 use std::test::Fail;
-
-/// The first nine write a line and end; the last one is the line.
-const WORDS: [u32; 10] = [
-    0x0001_05B7,
-    0x0245_8593,
-    0x0010_0513,
-    0x0030_0613,
-    0x0400_0893,
-    0x0000_0073,
-    0x0000_0513,
-    0x05E0_0893,
-    0x0000_0073,
-    0x000A_6968,
-];
+use test_guests::WRITES_A_LINE;
 
 /// How many bytes the two headers have.
 const HEADERS: usize = 84;
@@ -32,7 +19,7 @@ enum Told {
 
 /// The file of the program: both headers, and from 4096 on its page, which is mapped at 0x00010000.
 fn file_of_nine_words(alloc: Global) -> Result<Vec<u8>, Fail> {
-    let image = Image::from_words(alloc, &WORDS)?;
+    let image = Image::from_words(alloc, &WRITES_A_LINE)?;
     Ok(write_elf(alloc, &image)?)
 }
 

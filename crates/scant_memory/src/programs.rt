@@ -3,20 +3,7 @@
 use elf_image::{ElfFault, Image, read_elf, write_elf};
 use rv_asm::{AsmError, assemble};
 use std::alloc::{AllocError, Global};
-
-/// Prints a line and ends.
-const HELLO: [u32; 10] = [
-    0x0001_05B7,
-    0x0245_8593,
-    0x0010_0513,
-    0x0030_0613,
-    0x0400_0893,
-    0x0000_0073,
-    0x0000_0513,
-    0x05E0_0893,
-    0x0000_0073,
-    0x000A_6968,
-];
+use test_guests::WRITES_A_LINE;
 
 /// Numbers that one word loads, and such as take two.
 const LOADED: &str = "li t0,2047
@@ -46,7 +33,7 @@ const FAULTS: [(&str, u8); 6] = [
 
 /// An image of words.
 pub(crate) fn image_of_words(alloc: Global) -> Result<Image, AllocError> {
-    match Image::from_words(alloc, &HELLO) {
+    match Image::from_words(alloc, &WRITES_A_LINE) {
         Ok(image) => Ok(image),
         Err(_) => Err(AllocError),
     }

@@ -80,6 +80,20 @@ load:   lw   t3, 0(t1)
         ecall
 ";
 
+/// The first nine words write a line and end; the last one is the line.
+pub const WRITES_A_LINE: [u32; 10] = [
+    0x0001_05B7,
+    0x0245_8593,
+    0x0010_0513,
+    0x0030_0613,
+    0x0400_0893,
+    0x0000_0073,
+    0x0000_0513,
+    0x05E0_0893,
+    0x0000_0073,
+    0x000A_6968,
+];
+
 /// Numbers that look random, the same ones from the same seed.
 #[derive(Drop)]
 pub struct Random {

@@ -36,7 +36,7 @@ module _ {S : Type 0} (hart : ℕ) (access : Access) {A : Type 0} (address : ℕ
       → Bounds (MarksWithin old.tables) (MarksWithin new.tables) (page_of_access address expected) (stores_of access (page_of_access address expected))
   bus_bound expected accesses answers =
       bounds_access access (HasPage old.pages (cache_of old.caches hart)) (MarksUse old.pages new.tables (cache_of old.caches hart) access) (LacksPage old.pages) address old.tables new.tables expected result
-      answers accesses.entries accesses.unmarked
+      answers accesses.uses.entries accesses.uses.unmarked
 
   -- the same of an answer with another value
   pub bus_bound_with : {B : Type 0} (expected : Result B MemoryFault) (f : A → B) → Accesses hart access (page_number address) result old new
@@ -44,17 +44,17 @@ module _ {S : Type 0} (hart : ℕ) (access : Access) {A : Type 0} (address : ℕ
       → Bounds (MarksWithin old.tables) (MarksWithin new.tables) (page_of_access address expected) (stores_of access (page_of_access address expected))
   bus_bound_with expected f accesses answers =
       bounds_access_with access (HasPage old.pages (cache_of old.caches hart)) (MarksUse old.pages new.tables (cache_of old.caches hart) access) (LacksPage old.pages) address old.tables new.tables expected f result
-      answers accesses.entries accesses.unmarked
+      answers accesses.uses.entries accesses.uses.unmarked
 
   pub bus_keeps : Accesses hart access (page_number address) result old new → new.pages ≡ old.pages → KeepsAccess hart old new
-  bus_keeps accesses pages = access_written hart (page_number address) old new accesses.process accesses.bare accesses.kept (inl pages)
+  bus_keeps accesses pages = access_written hart (page_number address) old new accesses.process accesses.bare accesses.uses.kept (inl pages)
 
   told_by : {B : Type 0} (r : Result B BusError) → OnErr r (new.pages ≡ old.pages) → OnOk r (TakesStores old.pages new.tables (page_number address)) → (new.pages ≡ old.pages) ⊎ TakesStores old.pages new.tables (page_number address)
   told_by (Ok answer) pages takes = inr takes
   told_by (Err refusal) pages takes = inl pages
 
   pub bus_keeps_written : Writes hart access (page_number address) result old new → KeepsAccess hart old new
-  bus_keeps_written writes = access_written hart (page_number address) old new writes.accesses.process writes.accesses.bare writes.accesses.kept (told_by result writes.pages writes.takes)
+  bus_keeps_written writes = access_written hart (page_number address) old new writes.accesses.process writes.accesses.bare writes.accesses.uses.kept (told_by result writes.pages writes.takes)
 
   -- the memory that it stands for stays over one that reads, and where another is refused
   same_parts : (held : S → List ℕ) → new.pages ≡ old.pages → new.reserved ≡ old.reserved → memory_of held new ≡ memory_of held old
@@ -105,20 +105,20 @@ module _ {S : Type 0} (hart : ℕ) (access : Access) {A : Type 0} (address : ℕ
   -- of one that loads
   pub bus_leaves : (expected : Result A MemoryFault) (answered : Type 0) → answered → Accesses hart access (page_number address) result old new → AnswersAccess hart access old new address expected result
       → Leaves answered (MissesIn old hart [] access) result
-  bus_leaves expected answered is accesses answers = leaves_plainly answered result expected (on_any answered result is) accesses.held answers
+  bus_leaves expected answered is accesses answers = leaves_plainly answered result expected (on_any answered result is) accesses.uses.held answers
 
   pub bus_leaves_with : {B : Type 0} (expected : Result B MemoryFault) (f : A → B) → Accesses hart access (page_number address) result old new → AnswersAccess hart access old new address expected (with_answer f result)
       → Leaves (Unit {0}) (MissesIn old hart [] access) result
-  bus_leaves_with expected f accesses answers = leaves_by (Unit {0}) result expected f (on_any (Unit {0}) result tt) accesses.held answers
+  bus_leaves_with expected f accesses answers = leaves_by (Unit {0}) result expected f (on_any (Unit {0}) result tt) accesses.uses.held answers
 
   -- of one that stores
   pub bus_leaves_written : {B : Type 0} (expected : Result B MemoryFault) (f : A → B) → Writes hart access (page_number address) result old new → AnswersAccess hart access old new address expected (with_answer f result)
       → Leaves (TakesIn new (page_number address)) (MissesIn old hart [] access) result
   bus_leaves_written expected f writes answers =
-      leaves_by (TakesIn new (page_number address)) result expected f (takes_now result writes.accesses.small writes.accesses.bare writes.takes) writes.accesses.held answers
+      leaves_by (TakesIn new (page_number address)) result expected f (takes_now result writes.accesses.small writes.accesses.bare writes.takes) writes.accesses.uses.held answers
 
   -- what is missed behind a fetch, by a hart of the same number
   pub bus_missed : (hart' : ℕ) → hart' ≡ hart → Accesses hart access (page_number address) result old new → MissedBefore (MissesIn old hart) (MissesIn new hart') (page_number address)
   bus_missed hart' same accesses =
       subst (λ h. MissedBefore (MissesIn old hart) (MissesIn new h) (page_number address)) (sym same)
-      (missed_behind (page_number address) old.tables new.tables (cache_of old.caches hart) (cache_of new.caches hart) accesses.kept.fills)
+      (missed_behind (page_number address) old.tables new.tables (cache_of old.caches hart) (cache_of new.caches hart) accesses.uses.kept.fills)

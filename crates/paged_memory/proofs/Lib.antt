@@ -13,6 +13,7 @@ pub mod GrowthLaws
 pub mod WriteLaws
 pub mod LentLaws
 pub mod HitLaws
+pub mod OnePageLaws
 pub mod MovesLaws
 pub mod CleaningLaws
 pub mod CollectingLaws
@@ -24,5 +25,6 @@ pub mod PeekingLaws
 pub mod CoherenceLaws
 pub mod Marking
 pub mod Since
+pub mod WholeLaws
 pub mod BusLaws
 pub mod HeldLaws

@@ -3,28 +3,22 @@ use Rattle.std.specs.Prelude.{◌≡◌, ℕ, ◌^◌, ◌<◌, Result, OnOk, On
 use Rattle.page_memory.specs.declared.fault.MemoryFault.{MemoryFault}
 use Rattle.page_memory.specs.declared.words.Access.{Access}
 use Rattle.rv_exec.specs.declared.bus.BusError.{BusError}
-use Rattle.rv_exec.specs.Answers.{Answers}
-use Rattle.paged_memory.specs.Access.{HasPage, LacksPage, MarksUse, KeepsBare, KeepsTranslations, MayWalk, ServesHeld, TakesStores, cache_of}
+use Rattle.paged_memory.specs.Access.{KeepsBare, TakesStores}
+use Rattle.paged_memory.specs.OnePage.{AnswersUse, UsesPage}
 use Rattle.paged_memory.specs.Paged.{PagedValue}
 
 module _ {S : Type 0} where
   -- the answer is memory's, by a page that the hart has, and whose use the access marks, or that the page is not resident
   abbrev pub AnswersAccess : {A : Type 0} → ℕ → Access → PagedValue S → PagedValue S → ℕ → Result A MemoryFault → Result A BusError → Type 0
-  AnswersAccess hart access old new address expected result =
-      Answers (HasPage old.pages (cache_of old.caches hart)) (MarksUse old.pages new.tables (cache_of old.caches hart) access) (LacksPage old.pages) address expected result
+  AnswersAccess hart access old new address expected result = AnswersUse hart access old.pages new.tables old.caches address expected result
 
-  -- of an access to a page, whatever it does there: pages stay but for the bytes in their frames; the page is never absent to
-  -- a hart whose cache shows it for the access; of the tables a walk changes the page's entry, and fills its translation with D as
-  -- it is then, or nothing changes, as where the access is refused
+  -- of an access to a page, whatever it does there: pages stay but for the bytes in their frames; of tables and caches it changes
+  -- what a use of the page changes
   pub record Accesses {A : Type 0} (hart : ℕ) (access : Access) (page : ℕ) (result : Result A BusError) (old new : PagedValue S) : Type 0 where
     pub small : page < 2 ^ 20
     pub process : new.process ≡ old.process
     pub bare : KeepsBare page old.pages new.pages
-    pub held : ServesHeld (cache_of old.caches hart) access page result
-    pub kept : KeepsTranslations old.pages hart page old.tables new.tables old.caches new.caches
-    pub entries : MayWalk access page old.tables new.tables
-    pub unmarked : OnErr result (new.tables ≡ old.tables)
-    pub unfilled : OnErr result (new.caches ≡ old.caches)
+    pub uses : UsesPage hart access page result old.pages old.tables new.tables old.caches new.caches
 
   -- of one that reads: all pages and reservations stay
   pub record Reads {A : Type 0} (hart : ℕ) (access : Access) (page : ℕ) (result : Result A BusError) (old new : PagedValue S) : Type 0 where

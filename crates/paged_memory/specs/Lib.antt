@@ -4,6 +4,7 @@ pub mod Paged
 pub mod Calls
 pub mod Leaving
 pub mod Access
+pub mod OnePage
 pub mod Accesses
 pub mod Replies
 pub mod Counting

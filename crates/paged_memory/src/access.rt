@@ -9,7 +9,7 @@ ghost use Rattle.tlb_core.specs.Cache.{Hits, translation_of};
 ghost use Rattle.paged_memory.specs.declared.caches.Miss.{Miss};
 ghost use Rattle.paged_memory.specs.Access.{Reaches, RefusesAccess, Locates, HasPage, MarksUse};
 ghost use Rattle.paged_memory.specs.Access.{KeepsTranslations, MayWalk, cache_of, resident_frame};
-ghost use Rattle.paged_memory.specs.Access.{ServesHeld};
+ghost use Rattle.paged_memory.specs.OnePage.{ReachesPage};
 
 use crate::caches::{Caches, Miss};
 use page_memory::{Access, MemoryFault, PageMap, Rights, Width, page_of};
@@ -190,20 +190,10 @@ fn hit_or_walk<L: Ledger, S: SwapSlot>(
     requires hart { hart < length caches.old }
     requires holds { Holds S.content S.honest pages.now tables.old caches.old }
     ensures holds { Holds S.content S.honest pages.now tables.new caches.new }
-    ensures reaches { IfOk result (λ place. Reaches pages.now tables.new access
-        (page_number address) place) }
     ensures hits { IfOk result (λ place. Hits (cache_of caches.new hart) access
         (page_number address) place) }
-    ensures refused { IfErr result (RefusesAccess pages.now access (page_number address)) }
-    ensures held { ServesHeld (cache_of caches.old hart) access (page_number address) result }
-    ensures kept { KeepsTranslations pages.now hart (page_number address) tables.old tables.new
-        caches.old caches.new }
-    ensures entries { MayWalk access (page_number address) tables.old tables.new }
-    ensures unmarked { OnErr result (tables.new ≡ tables.old) }
-    ensures unfilled { OnErr result (caches.new ≡ caches.old) }
-    ensures has { OnOk result (HasPage pages.now (cache_of caches.old hart) (page_number address)) }
-    ensures marked { OnOk result (MarksUse pages.now tables.new (cache_of caches.old hart) access
-        (page_number address)) }
+    ensures reached { ReachesPage hart access (page_number address) result pages.now tables.old
+        tables.new caches.old caches.new }
 {
     let page = page_of(address);
     match hit(caches, hart, access, page) {
@@ -224,18 +214,8 @@ pub(crate) fn reach<L: Ledger, S: SwapSlot>(
     requires hart { hart < length caches.old }
     requires holds { Holds S.content S.honest pages.now tables.old caches.old }
     ensures holds { Holds S.content S.honest pages.now tables.new caches.new }
-    ensures reaches { IfOk result (λ place. Reaches pages.now tables.new access
-        (page_number address) place) }
-    ensures refused { IfErr result (RefusesAccess pages.now access (page_number address)) }
-    ensures held { ServesHeld (cache_of caches.old hart) access (page_number address) result }
-    ensures kept { KeepsTranslations pages.now hart (page_number address) tables.old tables.new
-        caches.old caches.new }
-    ensures entries { MayWalk access (page_number address) tables.old tables.new }
-    ensures unmarked { OnErr result (tables.new ≡ tables.old) }
-    ensures unfilled { OnErr result (caches.new ≡ caches.old) }
-    ensures has { OnOk result (HasPage pages.now (cache_of caches.old hart) (page_number address)) }
-    ensures marked { OnOk result (MarksUse pages.now tables.new (cache_of caches.old hart) access
-        (page_number address)) }
+    ensures reached { ReachesPage hart access (page_number address) result pages.now tables.old
+        tables.new caches.old caches.new }
 {
     match hit_or_walk(pages, tables, caches, hart, access, address) {
         Ok(place) => {

@@ -1,15 +1,16 @@
 ghost use Rattle.std.specs.Prelude.{◌≡◌, ◌<◌, ◌%◌, length, is_some, Some, Ok, OnOk, true, IfOk};
-ghost use Rattle.std.specs.Prelude.{IfErr, IfSome, OnErr};
+ghost use Rattle.std.specs.Prelude.{IfErr, IfSome};
 ghost use Rattle.page_memory.specs.Words.{page_number, page_offset, bytes_in};
 ghost use Rattle.page_memory.specs.Pages.{answer_by, number_at, aligned_page, usable, fetched};
 ghost use Rattle.page_memory.specs.Pages.{loaded};
 ghost use Rattle.page_memory.specs.declared.words.Access.{Access};
 ghost use Rattle.page_store.specs.PageValue.{content, writable};
-ghost use Rattle.rv_exec.specs.Answers.{Answers, BusRefuses};
+ghost use Rattle.rv_exec.specs.Answers.{BusRefuses};
 ghost use Rattle.paged_memory.specs.Paged.{Holds, flat_pages};
 ghost use Rattle.paged_memory.specs.Replies.{loaded_by};
-ghost use Rattle.paged_memory.specs.Access.{HasPage, LacksPage, MarksUse, KeepsTranslations};
-ghost use Rattle.paged_memory.specs.Access.{MayWalk, TakesStores, UsesBytes, cache_of, ServesHeld};
+ghost use Rattle.paged_memory.specs.Access.{HasPage, LacksPage, MarksUse, TakesStores, UsesBytes};
+ghost use Rattle.paged_memory.specs.Access.{cache_of};
+ghost use Rattle.paged_memory.specs.OnePage.{AnswersUse, UsesPage};
 
 use crate::access::{at_hand, reach};
 use crate::caches::Caches;
@@ -96,12 +97,8 @@ pub(crate) fn read<'a, L: Ledger, S: SwapSlot>(
     ensures whole { IfOk result (λ bytes. length bytes.now ≡ 4096) }
     ensures refused { IfErr result (BusRefuses (LacksPage pages.now) address
         (usable (flat_pages S.content pages.now) access address)) }
-    ensures held { ServesHeld (cache_of caches.old hart) access (page_number address) result }
-    ensures kept { KeepsTranslations pages.now hart (page_number address) tables.old tables.new
-        caches.old caches.new }
-    ensures entries { MayWalk access (page_number address) tables.old tables.new }
-    ensures unmarked { OnErr result (tables.new ≡ tables.old) }
-    ensures unfilled { OnErr result (caches.new ≡ caches.old) }
+    ensures uses { UsesPage hart access (page_number address) result pages.now tables.old
+        tables.new caches.old caches.new }
     ensures takes { access ≡ Access.Store →
         OnOk result (TakesStores pages.now tables.new (page_number address)) }
     ensures has { OnOk result (HasPage pages.now (cache_of caches.old hart) (page_number address)) }
@@ -128,17 +125,10 @@ pub(crate) fn fetch_anew<L: Ledger, S: SwapSlot>(
     requires hart { hart < length caches.old }
     requires holds { Holds S.content S.honest pages.now tables.old caches.old }
     ensures holds { Holds S.content S.honest pages.now tables.new caches.new }
-    ensures answer { Answers (HasPage pages.now (cache_of caches.old hart))
-        (MarksUse pages.now tables.new (cache_of caches.old hart) Access.Fetch)
-        (LacksPage pages.now) address (fetched (flat_pages S.content pages.now) address)
-        (loaded_by result) }
-    ensures held { ServesHeld (cache_of caches.old hart) Access.Fetch (page_number address)
-        (loaded_by result) }
-    ensures kept { KeepsTranslations pages.now hart (page_number address) tables.old tables.new
-        caches.old caches.new }
-    ensures entries { MayWalk Access.Fetch (page_number address) tables.old tables.new }
-    ensures unmarked { OnErr (loaded_by result) (tables.new ≡ tables.old) }
-    ensures unfilled { OnErr (loaded_by result) (caches.new ≡ caches.old) }
+    ensures answer { AnswersUse hart Access.Fetch pages.now tables.new caches.old address
+        (fetched (flat_pages S.content pages.now) address) (loaded_by result) }
+    ensures uses { UsesPage hart Access.Fetch (page_number address) (loaded_by result) pages.now
+        tables.old tables.new caches.old caches.new }
 {
     if address % 4 != 0 {
         return LoadReply::Misaligned;
@@ -166,17 +156,10 @@ pub(crate) fn load_anew<L: Ledger, S: SwapSlot>(
     requires hart { hart < length caches.old }
     requires holds { Holds S.content S.honest pages.now tables.old caches.old }
     ensures holds { Holds S.content S.honest pages.now tables.new caches.new }
-    ensures answer { Answers (HasPage pages.now (cache_of caches.old hart))
-        (MarksUse pages.now tables.new (cache_of caches.old hart) Access.Load)
-        (LacksPage pages.now) address (loaded (flat_pages S.content pages.now) width address)
-        (loaded_by result) }
-    ensures held { ServesHeld (cache_of caches.old hart) Access.Load (page_number address)
-        (loaded_by result) }
-    ensures kept { KeepsTranslations pages.now hart (page_number address) tables.old tables.new
-        caches.old caches.new }
-    ensures entries { MayWalk Access.Load (page_number address) tables.old tables.new }
-    ensures unmarked { OnErr (loaded_by result) (tables.new ≡ tables.old) }
-    ensures unfilled { OnErr (loaded_by result) (caches.new ≡ caches.old) }
+    ensures answer { AnswersUse hart Access.Load pages.now tables.new caches.old address
+        (loaded (flat_pages S.content pages.now) width address) (loaded_by result) }
+    ensures uses { UsesPage hart Access.Load (page_number address) (loaded_by result) pages.now
+        tables.old tables.new caches.old caches.new }
 {
     if address % width.bytes() != 0 {
         return LoadReply::Misaligned;
@@ -201,16 +184,11 @@ pub(crate) fn load_to_replace<L: Ledger, S: SwapSlot>(
     requires hart { hart < length caches.old }
     requires holds { Holds S.content S.honest pages.now tables.old caches.old }
     ensures holds { Holds S.content S.honest pages.now tables.new caches.new }
-    ensures answer { Answers (HasPage pages.now (cache_of caches.old hart))
-        (MarksUse pages.now tables.new (cache_of caches.old hart) Access.Store)
-        (LacksPage pages.now) address (answer_by (number_at 4 address)
-        (aligned_page (flat_pages S.content pages.now) Access.Store 4 address)) result }
-    ensures held { ServesHeld (cache_of caches.old hart) Access.Store (page_number address) result }
-    ensures kept { KeepsTranslations pages.now hart (page_number address) tables.old tables.new
-        caches.old caches.new }
-    ensures entries { MayWalk Access.Store (page_number address) tables.old tables.new }
-    ensures unmarked { OnErr result (tables.new ≡ tables.old) }
-    ensures unfilled { OnErr result (caches.new ≡ caches.old) }
+    ensures answer { AnswersUse hart Access.Store pages.now tables.new caches.old address
+        (answer_by (number_at 4 address) (aligned_page (flat_pages S.content pages.now)
+        Access.Store 4 address)) result }
+    ensures uses { UsesPage hart Access.Store (page_number address) result pages.now tables.old
+        tables.new caches.old caches.new }
     ensures takes { OnOk result (TakesStores pages.now tables.new (page_number address)) }
 {
     if address % 4 != 0 {

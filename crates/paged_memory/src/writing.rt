@@ -1,17 +1,16 @@
-ghost use Rattle.std.specs.Prelude.{◌≡◌, ◌+◌, ◌≤◌, ◌<◌, ◌%◌, length, is_some, Some, Ok, OnOk};
-ghost use Rattle.std.specs.Prelude.{OnErr, true, ℕ, drop};
+ghost use Rattle.std.specs.Prelude.{◌≡◌, ◌+◌, ◌≤◌, ◌<◌, ◌%◌, length, is_some, Some, Ok, true};
+ghost use Rattle.std.specs.Prelude.{ℕ, drop};
 ghost use Rattle.page_memory.specs.Words.{page_number, page_offset, bytes_in};
 ghost use Rattle.page_memory.specs.Pages.{overwritten, stored, replaced, copied_in};
 ghost use Rattle.byteorder.specs.Endian.{little_bytes, little_number};
 ghost use Rattle.page_store.specs.PageValue.{content, writable};
 ghost use Rattle.page_store.specs.Lending.{with_bytes};
 ghost use Rattle.rv_exec.specs.Amo.{amo_result};
-ghost use Rattle.rv_exec.specs.Answers.{Answers, with_answer};
+ghost use Rattle.rv_exec.specs.Answers.{with_answer};
 ghost use Rattle.page_memory.specs.declared.words.Access.{Access};
 ghost use Rattle.paged_memory.specs.Paged.{Holds, flat_pages};
 ghost use Rattle.paged_memory.specs.Replies.{stored_by};
-ghost use Rattle.paged_memory.specs.Access.{HasPage, LacksPage, MarksUse, KeepsTranslations};
-ghost use Rattle.paged_memory.specs.Access.{MayWalk, KeepsBare, TakesStores, cache_of, ServesHeld};
+ghost use Rattle.paged_memory.specs.OnePage.{AnswersUse, WritesPage};
 
 use crate::access::{at_hand, reach};
 use crate::caches::Caches;
@@ -99,21 +98,11 @@ pub(crate) fn store<L: Ledger, S: SwapSlot>(
 ) -> Result<(), BusError>
     requires hart { hart < length caches.old }
     requires holds { Holds S.content S.honest pages.old tables.old caches.old }
-    ensures holds { Holds S.content S.honest pages.new tables.new caches.new }
     ensures answer { let after = with_answer (λ _. flat_pages S.content pages.new) result in
-        Answers (HasPage pages.old (cache_of caches.old hart))
-        (MarksUse pages.old tables.new (cache_of caches.old hart) Access.Store)
-        (LacksPage pages.old) address (stored (flat_pages S.content pages.old) width address word)
-        after }
-    ensures refused { OnErr result (pages.new ≡ pages.old) }
-    ensures bare { KeepsBare (page_number address) pages.old pages.new }
-    ensures held { ServesHeld (cache_of caches.old hart) Access.Store (page_number address) result }
-    ensures kept { KeepsTranslations pages.old hart (page_number address) tables.old tables.new
-        caches.old caches.new }
-    ensures entries { MayWalk Access.Store (page_number address) tables.old tables.new }
-    ensures unmarked { OnErr result (tables.new ≡ tables.old) }
-    ensures unfilled { OnErr result (caches.new ≡ caches.old) }
-    ensures takes { OnOk result (TakesStores pages.old tables.new (page_number address)) }
+        AnswersUse hart Access.Store pages.old tables.new caches.old address
+        (stored (flat_pages S.content pages.old) width address word) after }
+    ensures writes { WritesPage S.content S.honest hart (page_number address) result pages.old
+        pages.new tables.old tables.new caches.old caches.new }
 {
     match at_hand(pages, tables, caches, hart, Access::Store, width, address) {
         Some(spot) => {
@@ -144,23 +133,12 @@ fn store_anew<L: Ledger, S: SwapSlot>(
 ) -> StoreReply
     requires hart { hart < length caches.old }
     requires holds { Holds S.content S.honest pages.old tables.old caches.old }
-    ensures holds { Holds S.content S.honest pages.new tables.new caches.new }
     ensures answer { let after = with_answer (λ _. flat_pages S.content pages.new)
         (stored_by result) in
-        Answers (HasPage pages.old (cache_of caches.old hart))
-        (MarksUse pages.old tables.new (cache_of caches.old hart) Access.Store)
-        (LacksPage pages.old) address (stored (flat_pages S.content pages.old) width address word)
-        after }
-    ensures refused { OnErr (stored_by result) (pages.new ≡ pages.old) }
-    ensures bare { KeepsBare (page_number address) pages.old pages.new }
-    ensures held { ServesHeld (cache_of caches.old hart) Access.Store (page_number address)
-        (stored_by result) }
-    ensures kept { KeepsTranslations pages.old hart (page_number address) tables.old tables.new
-        caches.old caches.new }
-    ensures entries { MayWalk Access.Store (page_number address) tables.old tables.new }
-    ensures unmarked { OnErr (stored_by result) (tables.new ≡ tables.old) }
-    ensures unfilled { OnErr (stored_by result) (caches.new ≡ caches.old) }
-    ensures takes { OnOk (stored_by result) (TakesStores pages.old tables.new (page_number address)) }
+        AnswersUse hart Access.Store pages.old tables.new caches.old address
+        (stored (flat_pages S.content pages.old) width address word) after }
+    ensures writes { WritesPage S.content S.honest hart (page_number address) (stored_by result)
+        pages.old pages.new tables.old tables.new caches.old caches.new }
 {
     if address % width.bytes() != 0 {
         return StoreReply::Misaligned;
@@ -191,21 +169,11 @@ pub(crate) fn copy_in<L: Ledger, S: SwapSlot>(
     requires hart { hart < length caches.old }
     requires within { page_offset address + length from.now ≤ 4096 }
     requires holds { Holds S.content S.honest pages.old tables.old caches.old }
-    ensures holds { Holds S.content S.honest pages.new tables.new caches.new }
     ensures answer { let after = with_answer (λ _. flat_pages S.content pages.new) result in
-        Answers (HasPage pages.old (cache_of caches.old hart))
-        (MarksUse pages.old tables.new (cache_of caches.old hart) Access.Store)
-        (LacksPage pages.old) address (copied_in (flat_pages S.content pages.old) address from.now)
-        after }
-    ensures refused { OnErr result (pages.new ≡ pages.old) }
-    ensures bare { KeepsBare (page_number address) pages.old pages.new }
-    ensures held { ServesHeld (cache_of caches.old hart) Access.Store (page_number address) result }
-    ensures kept { KeepsTranslations pages.old hart (page_number address) tables.old tables.new
-        caches.old caches.new }
-    ensures entries { MayWalk Access.Store (page_number address) tables.old tables.new }
-    ensures unmarked { OnErr result (tables.new ≡ tables.old) }
-    ensures unfilled { OnErr result (caches.new ≡ caches.old) }
-    ensures takes { OnOk result (TakesStores pages.old tables.new (page_number address)) }
+        AnswersUse hart Access.Store pages.old tables.new caches.old address
+        (copied_in (flat_pages S.content pages.old) address from.now) after }
+    ensures writes { WritesPage S.content S.honest hart (page_number address) result pages.old
+        pages.new tables.old tables.new caches.old caches.new }
 {
     match reach(pages, tables, caches, hart, Access::Store, address) {
         Ok(place) => {
@@ -229,22 +197,12 @@ pub(crate) fn amo<L: Ledger, S: SwapSlot>(
 ) -> Result<u32, BusError>
     requires hart { hart < length caches.old }
     requires holds { Holds S.content S.honest pages.old tables.old caches.old }
-    ensures holds { Holds S.content S.honest pages.new tables.new caches.new }
     ensures answer { let update = λ (old : ℕ). amo_result operation old operand in
         let after = with_answer (λ old. (old, flat_pages S.content pages.new)) result in
-        Answers (HasPage pages.old (cache_of caches.old hart))
-        (MarksUse pages.old tables.new (cache_of caches.old hart) Access.Store)
-        (LacksPage pages.old) address (replaced (flat_pages S.content pages.old) update address)
-        after }
-    ensures refused { OnErr result (pages.new ≡ pages.old) }
-    ensures bare { KeepsBare (page_number address) pages.old pages.new }
-    ensures held { ServesHeld (cache_of caches.old hart) Access.Store (page_number address) result }
-    ensures kept { KeepsTranslations pages.old hart (page_number address) tables.old tables.new
-        caches.old caches.new }
-    ensures entries { MayWalk Access.Store (page_number address) tables.old tables.new }
-    ensures unmarked { OnErr result (tables.new ≡ tables.old) }
-    ensures unfilled { OnErr result (caches.new ≡ caches.old) }
-    ensures takes { OnOk result (TakesStores pages.old tables.new (page_number address)) }
+        AnswersUse hart Access.Store pages.old tables.new caches.old address
+        (replaced (flat_pages S.content pages.old) update address) after }
+    ensures writes { WritesPage S.content S.honest hart (page_number address) result pages.old
+        pages.new tables.old tables.new caches.old caches.new }
 {
     match at_hand(
         pages,
@@ -280,22 +238,12 @@ fn amo_anew<L: Ledger, S: SwapSlot>(
 ) -> Result<u32, BusError>
     requires hart { hart < length caches.old }
     requires holds { Holds S.content S.honest pages.old tables.old caches.old }
-    ensures holds { Holds S.content S.honest pages.new tables.new caches.new }
     ensures answer { let update = λ (old : ℕ). amo_result operation old operand in
         let after = with_answer (λ old. (old, flat_pages S.content pages.new)) result in
-        Answers (HasPage pages.old (cache_of caches.old hart))
-        (MarksUse pages.old tables.new (cache_of caches.old hart) Access.Store)
-        (LacksPage pages.old) address (replaced (flat_pages S.content pages.old) update address)
-        after }
-    ensures refused { OnErr result (pages.new ≡ pages.old) }
-    ensures bare { KeepsBare (page_number address) pages.old pages.new }
-    ensures held { ServesHeld (cache_of caches.old hart) Access.Store (page_number address) result }
-    ensures kept { KeepsTranslations pages.old hart (page_number address) tables.old tables.new
-        caches.old caches.new }
-    ensures entries { MayWalk Access.Store (page_number address) tables.old tables.new }
-    ensures unmarked { OnErr result (tables.new ≡ tables.old) }
-    ensures unfilled { OnErr result (caches.new ≡ caches.old) }
-    ensures takes { OnOk result (TakesStores pages.old tables.new (page_number address)) }
+        AnswersUse hart Access.Store pages.old tables.new caches.old address
+        (replaced (flat_pages S.content pages.old) update address) after }
+    ensures writes { WritesPage S.content S.honest hart (page_number address) result pages.old
+        pages.new tables.old tables.new caches.old caches.new }
 {
     if address % 4 != 0 {
         return Err(BusError::Fault(MemoryFault::Misaligned));

@@ -1,12 +1,9 @@
 use Rattle.std.proofs.Common.{◌<◌, ◌^◌, arith}
 use Rattle.page_memory.specs.Words.{page_number}
-use Rattle.paged_memory.proofs.LentLaws.{holds_lent, bare_lent, stored_lent}
+use Rattle.page_memory.specs.declared.words.Access.TheVariants.{Store}
+use Rattle.paged_memory.proofs.LentLaws.{stored_lent}
+use Rattle.paged_memory.proofs.OnePageLaws.{uses_itself, writes_lent}
 use Rattle.paged_memory.proofs.writing.store.Goals as goal
-
-pub returns-in-Some-clause-holds : goal.returns-in-Some-clause-holds
-returns-in-Some-clause-holds g c =
-    let small : page_number c.args.address < 2 ^ 20 = omega arith in
-    holds_lent (page_number c.args.address) c.in-Some.spot.place small c.requires.holds c.in-Some.ensures.reaches c.at_mut.result.now c.put_number_in.new.page c.at_mut.ensures.value _ c.put_number_in.ensures
 
 pub returns-in-Some-clause-answer : goal.returns-in-Some-clause-answer
 returns-in-Some-clause-answer g c = (
@@ -15,7 +12,8 @@ returns-in-Some-clause-answer g c = (
   (c.in-Some.ensures.has, c.in-Some.ensures.marked),
 )
 
-pub returns-in-Some-clause-bare : goal.returns-in-Some-clause-bare
-returns-in-Some-clause-bare g c =
+pub returns-in-Some-clause-writes : goal.returns-in-Some-clause-writes
+returns-in-Some-clause-writes g c =
     let small : page_number c.args.address < 2 ^ 20 = omega arith in
-    bare_lent (page_number c.args.address) c.in-Some.spot.place small c.requires.holds c.in-Some.ensures.reaches c.at_mut.result.now c.put_number_in.new.page c.at_mut.ensures.value _ c.put_number_in.ensures
+    writes_lent (page_number c.args.address) c.in-Some.spot.place small c.requires.holds c.in-Some.ensures.reaches
+    (uses_itself c.args.hart (page_number c.args.address) c.args.pages.now c.args.tables.now c.args.caches.now Store c.in-Some.spot.place) c.at_mut.result.now c.put_number_in.new.page c.at_mut.ensures.value _ c.put_number_in.ensures

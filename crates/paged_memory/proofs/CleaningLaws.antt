@@ -1,37 +1,35 @@
 -- A page is cleaned while it is used.
-use Rattle.std.specs.Prelude.{◌≡◌, ℕ, ◌+◌, ◌^◌, ◌<◌, ◌≤◌, Bool, true, false, ◌||◌, ◌&&◌, Option, Some, None, option_map, Result, Ok, Err, is_some, List, map, refl, ◌⊎◌, IsFalse, IfErr, OnOk, OnErr}
+use Rattle.std.specs.Prelude.{◌≡◌, ℕ, ◌+◌, ◌^◌, ◌<◌, ◌≤◌, Bool, true, false, ◌||◌, ◌&&◌, Option, Some, None, option_map, Result, Ok, Err, is_some, List, map, refl, ◌⊎◌, IfErr, OnOk, OnErr}
 use Rattle.std.proofs.Common.{sym, ap, ◌∙◌, subst, inl, inr, true≢false, arith}
 use Rattle.std.proofs.lemmas.Bool.Decides.{leb_tells}
 use Rattle.frame_pool.specs.FrameValue.{FrameValue}
 use Rattle.page_memory.specs.Entries.{place_of, value_at, with_value}
-use Rattle.page_memory.specs.Pages.{Page}
 use Rattle.page_memory.specs.declared.rights.Rights.{Rights}
 use Rattle.page_store.specs.Cleaning.{begun, begun_keeping, resident_with, CopiedPage, copied_clean, copy_resident, copy_cleaning, copy_unmarked, copy_for_spare, IfCopyOut, keeping, EndsCleaning}
 use Rattle.page_store.specs.JobValue.{SavedValue}
 use Rattle.page_store.specs.Keeping.{Keeping, NoSlot, Saved, Unbacked, Cleaning, CopyOut, is_unbacked, is_loose}
 use Rattle.page_store.specs.Moves.{copy_of}
-use Rattle.page_store.specs.PageValue.{PageValue, Place, Fresh, Resident, Leaving, Saving, Away, Purged, frame_of, shown, content, changed, Backed}
+use Rattle.page_store.specs.PageValue.{PageValue, Place, Fresh, Resident, Leaving, Saving, Away, Purged, frame_of, shown, changed, Backed}
 use Rattle.page_store.specs.declared.answer.CleanCopy.{CleanCopy}
 use Rattle.page_store.specs.declared.answer.Cleaned.{Cleaned}
 use Rattle.page_store.specs.declared.answer.Cleaned.TheVariants as end
 use Rattle.page_store.specs.declared.refusal.CleanRefusal.{CleanRefusal}
-use Rattle.sv32_table.specs.Entry.{Entry, page_entry, blank}
+use Rattle.sv32_table.specs.Entry.{Entry, page_entry}
 use Rattle.sv32_table.specs.EntryAt.{entry_at, ChangesEntry, SameTables, dirty_of, undirtied_entry}
 use Rattle.sv32_table.specs.EntryLaws.{undirtied_entry-page_entry, dirty_of-page_entry}
 use Rattle.tlb_core.specs.declared.translation.Translation.{Translation}
 use Rattle.tlb_core.specs.Cache.{doomed}
 use Rattle.paged_memory.specs.Calls.{IsResident, ChangesBy}
-use Rattle.paged_memory.specs.Cleaning.{settles, StartsClean, RefusesClean, Copies, CopiesAt, IsCopyAt, IsCopyOf, EndsSo, EndsAt, EndsCleaningOf, is_changed_resident}
+use Rattle.paged_memory.specs.Cleaning.{settles, StartsClean, RefusesClean, Copies, CopiesAt, IsCopyAt, IsCopyOf, EndsCleaningOf, is_changed_resident}
 use Rattle.paged_memory.specs.Counting.{page_passes, is_resident_place}
 use Rattle.paged_memory.specs.Paged.{standing_of, seen_of, page_at, seen_at, flat_page, flat_pages, Holds, ChangesPage}
 use Rattle.paged_memory.specs.Seen.{Seen, Standing, entry_seen, entry_standing, frame_seen, frame_standing, rights_seen, is_dirty, dirty_standing, is_loose_standing, takes_stores, is_used, used_standing}
 use Rattle.paged_memory.specs.Seen as seen
-use Rattle.paged_memory.specs.Soundness.{is_marked, IsMapped}
+use Rattle.paged_memory.specs.Soundness.{is_marked}
 use Rattle.paged_memory.proofs.CallLaws.{entry_resident, seen_resident, readable_resident, mapped_resident}
 use Rattle.paged_memory.proofs.Holding.{marked_by_none}
 use Rattle.paged_memory.proofs.MovesLaws.{holds_same, with_same}
-use Rattle.paged_memory.proofs.PagedLaws.{Change, choice_here, changes_no_entry, changes_at_place, changed_by, page_at-place, page_at-nowhere, Holds-held, Holds-unmarked, Holds-doomed, memory_stays}
-use Rattle.paged_memory.proofs.SoundnessLaws.{Stays}
+use Rattle.paged_memory.proofs.PagedLaws.{Change, choice_here, changes_no_entry, changed_by, page_at-place, page_at-nowhere, Holds-held, Holds-unmarked, Holds-doomed, memory_stays}
 
 always : (b : Bool) → (b || true) ≡ true
 always true = refl

@@ -1,5 +1,5 @@
 -- A hart's cache shows the place of a page for an access.
-use Rattle.std.specs.Prelude.{◌≡◌, ℕ, ◌<◌, Bool, true, false, ◌||◌, ◌&&◌, Some, option_map, is_some, List, [], ◌∷◌, All, length, refl, cond, find}
+use Rattle.std.specs.Prelude.{◌≡◌, ℕ, ◌<◌, Bool, true, false, Some, option_map, is_some, List, [], All, length, refl}
 use Rattle.std.proofs.Common.{sym, ap, ◌∙◌, subst, inl, inr}
 use Rattle.std.proofs.lemmas.List.Elements.{All-get_or}
 use Rattle.page_memory.specs.declared.words.Access.{Access}
@@ -10,7 +10,7 @@ use Rattle.page_memory.specs.EntriesLaws.{has_value}
 use Rattle.page_store.specs.PageValue.{PageValue, Place, Fresh, Resident, Leaving, Saving, Away, Purged, writable}
 use Rattle.sv32_table.specs.EntryAt.{entry_at}
 use Rattle.tlb_core.specs.declared.translation.Translation.{Translation}
-use Rattle.tlb_core.specs.Cache.{Hits, translation_of, is_of_page}
+use Rattle.tlb_core.specs.Cache.{Hits}
 use Rattle.tlb_core.specs.CacheLaws.{All-entry_of, page-entry_of}
 use Rattle.paged_memory.specs.Seen.{frame_seen, frame_standing, rights_seen, takes_stores}
 use Rattle.paged_memory.specs.Soundness.{IsSound}

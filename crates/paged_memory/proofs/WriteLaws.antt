@@ -1,5 +1,5 @@
 -- A hart writes to a page that its access reaches.
-use Rattle.std.specs.Prelude.{◌≡◌, ◌≢◌, ℕ, ◌^◌, ◌<◌, ◌%◌, ◌==◌, Bool, true, false, cond, ◌||◌, Some, option_map, Result, Ok, Err, is_some, List, [], refl}
+use Rattle.std.specs.Prelude.{◌≡◌, ◌≢◌, ℕ, ◌^◌, ◌<◌, ◌%◌, ◌==◌, Bool, true, false, cond, Some, option_map, Result, Ok, Err, is_some, List, [], refl}
 use Rattle.std.proofs.Common.{sym, ap, ◌∙◌, subst, eqb-true, eq-eqb, ne_eqb}
 use Rattle.byteorder.specs.Endian.{little_bytes}
 use Rattle.page_memory.specs.Pages.{Page, overwritten, answer_by, usable, aligned_page, if_aligned, memory_with, number_at, Pages, exchanged, replaced, stored, copied_in}

@@ -1,8 +1,8 @@
 -- What it does to a memory that a page's cleaning begins, that a copy of it goes out, and that the copy comes back.
-use Rattle.std.proofs.Common.{◌≡◌, ℕ, ◌+◌, ◌^◌, ◌<◌, Bool, true, false, ◌&&◌, cond, List, Option, Some, None, Result, Ok, Err, option_map, option_and_then, is_some, inl, inr, refl, sym, ap, ◌∙◌, arith, subst}
+use Rattle.std.proofs.Common.{◌≡◌, ℕ, ◌+◌, ◌^◌, ◌<◌, Bool, true, false, ◌&&◌, cond, Option, Some, None, Result, Ok, option_and_then, is_some, inl, inr, refl, sym, ap, ◌∙◌, arith, subst}
 use Rattle.std.proofs.lemmas.Bool.Decides.{eqb_tells}
 use Rattle.frame_pool.specs.FrameValue.{FrameValue}
-use Rattle.page_store.specs.Cleaning.{begun, begun_keeping, resident_with, CopiedPage, copied_clean, copy_resident, copy_cleaning, copy_unmarked, copy_for_spare, IfOut, IfCopyOut, keeping, EndsCleaning}
+use Rattle.page_store.specs.Cleaning.{begun, begun_keeping, resident_with, CopiedPage, copied_clean, copy_resident, copy_cleaning, copy_unmarked, copy_for_spare, IfCopyOut, keeping}
 use Rattle.page_store.specs.JobValue.{JobValue, SavedValue}
 use Rattle.page_store.specs.Keeping.{Keeping, NoSlot, Saved, Unbacked, Cleaning, CopyOut, is_copy_out, kept}
 use Rattle.page_store.specs.Moves.{copy_of, job_of}
@@ -16,7 +16,7 @@ use Rattle.page_store.specs.declared.state.PageState.{PageState}
 use Rattle.sv32_table.specs.EntryAt.{entry_at, dirty_of}
 use Rattle.paged_memory.specs.AlikeLaws.{SavingsStay, CountsAlike, same_stay, same_tables}
 use Rattle.paged_memory.specs.Calls.{ChangesBy}
-use Rattle.paged_memory.specs.Cleaning.{StartsClean, BeginsCleaning, Copies, CopiesAt, CopiesPage, EndsSo, EndsAt, EndsCleaningIn, EndsCleaningOf}
+use Rattle.paged_memory.specs.Cleaning.{StartsClean, BeginsCleaning, Copies, CopiesAt, CopiesPage, EndsCleaningIn}
 use Rattle.paged_memory.specs.Copies.{CopyGoesOut, CopyComesBack, copies_among, if_out, told_of_place}
 use Rattle.paged_memory.specs.CopiesMoveLaws.{out_stands, OtherBits, same_bits, other_bits, moved_copies, moved_outs, copied_before, copied_after, moved_other_copies}
 use Rattle.paged_memory.specs.Counting.{is_resident_place, is_saving_place, frame_passes, is_kept}

@@ -1,5 +1,5 @@
 -- What it does to a memory that an absent page comes into a frame, that it does not, and that a page is looked at.
-use Rattle.std.proofs.Common.{◌≡◌, ℕ, ◌+◌, ◌^◌, ◌<◌, Bool, true, false, ◌&&◌, cond, List, Option, Some, None, option_map, refl, sym, ap, ◌∙◌, arith, subst}
+use Rattle.std.proofs.Common.{◌≡◌, ℕ, ◌+◌, ◌^◌, ◌<◌, Bool, true, false, ◌&&◌, cond, List, Option, Some, None, option_map, refl, ap, ◌∙◌, arith, subst}
 use Rattle.std.specs.Prelude.{IfSome}
 use Rattle.frame_pool.specs.FrameValue.{FrameValue}
 use Rattle.page_memory.specs.Words.{page_number}

@@ -1,10 +1,10 @@
 -- What each call leaves of the copies that are out, by its answer.
-use Rattle.std.proofs.Common.{◌≡◌, List, ℕ, ◌^◌, ◌<◌, Bool, true, false, Option, Some, None, Result, Ok, Err, refl, sym, ap, ◌∙◌, subst}
+use Rattle.std.proofs.Common.{◌≡◌, List, ℕ, ◌^◌, ◌<◌, Bool, false, Option, Some, None, Result, Ok, Err, refl, sym, ap, ◌∙◌, subst}
 use Rattle.std.specs.Prelude.{IfOk, IfErr, IfSome, IfNone, OnOk, OnErr, OnSome}
 use Rattle.frame_pool.specs.FrameValue.{FrameValue}
 use Rattle.page_store.specs.JobValue.{SavedValue}
 use Rattle.page_store.specs.Moves.{RefusesSave}
-use Rattle.page_store.specs.PageValue.{PageValue, Place, Fresh, Resident, Leaving, Saving, Away, Purged}
+use Rattle.page_store.specs.PageValue.{Place, Fresh, Resident, Leaving, Saving, Away, Purged}
 use Rattle.page_store.specs.declared.answer.CleanCopy.{CleanCopy}
 use Rattle.page_store.specs.declared.answer.CleanCopy.TheVariants as clean
 use Rattle.page_store.specs.declared.answer.Cleaned.{Cleaned}

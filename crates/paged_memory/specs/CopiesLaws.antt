@@ -10,9 +10,9 @@ use Rattle.page_store.specs.PageValue.{PageValue, Place, Fresh, Resident, Leavin
 use Rattle.sv32_table.specs.Entry.{Entry}
 use Rattle.sv32_table.specs.EntryAt.{entry_at}
 use Rattle.paged_memory.specs.Access.{bare_at}
-use Rattle.paged_memory.specs.Copies.{StandsAt, CopyStands, KeepsCopies}
+use Rattle.paged_memory.specs.Copies.{StandsAt, KeepsCopies}
 use Rattle.paged_memory.specs.Paged.{PagedValue, page_at, seen_at, seen_of, standing_of}
-use Rattle.paged_memory.specs.Seen.{Seen, is_dirty, dirty_standing, is_loose_standing, takes_stores}
+use Rattle.paged_memory.specs.Seen.{is_dirty, dirty_standing, is_loose_standing, takes_stores}
 
 pub copies_itself : {S : Type 0} (memory : PagedValue S) → KeepsCopies memory memory
 copies_itself memory vpn bytes small stands = stands

@@ -20,7 +20,7 @@ use Rattle.paged_memory.specs.MoveLaws.{moved_stay, moved_savings, moved_frames,
 use Rattle.paged_memory.specs.Moving.{has_to_give, has_to_give_in, unless_out, place_given, page_given, PageGiven, IsGiven, IsLeft, GivesIn, GivesAll, HasNothingBelow}
 use Rattle.paged_memory.specs.Paged.{PagedValue, page_at}
 use Rattle.paged_memory.specs.Stages.{is_saving_stage}
-use Rattle.paged_memory.specs.Whole.{stage_in, is_out_in, residents_among, savings_among, frames_among, slots_within}
+use Rattle.paged_memory.specs.Whole.{is_out_in, residents_among, savings_among, frames_among, slots_within}
 
 module _ {S : Type 0} where
   -- how many pages have something to give back

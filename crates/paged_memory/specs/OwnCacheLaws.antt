@@ -1,5 +1,5 @@
 -- A hart's cache over several of its accesses.
-use Rattle.std.specs.Prelude.{◌≡◌, ◌≢◌, ℕ, ◌^◌, ◌<◌, ◌==◌, ◌⊎◌, Bool, true, false, Some, List, [], ◌∷◌, ◌++◌, All, Contains, refl}
+use Rattle.std.specs.Prelude.{◌≡◌, ◌≢◌, ℕ, ◌==◌, ◌⊎◌, Bool, true, false, Some, List, [], ◌∷◌, ◌++◌, Contains, refl}
 use Rattle.std.proofs.Common.{sym, ap, ◌∙◌, subst, inl, inr, true≢false, eqb-true, eq-eqb}
 use Rattle.std.proofs.lemmas.List.Elements.{All-nil, All-cons, All-append, All-weaker, All-contains_itself}
 use Rattle.std.proofs.lemmas.Option.{same_Some}

@@ -12,7 +12,7 @@ use Rattle.sv32_table.specs.EntryAt.{entry_at}
 use Rattle.paged_memory.specs.AlikeLaws.{SavingsStay}
 use Rattle.paged_memory.specs.Copies.{LeavesCopies, if_out, told_of_place}
 use Rattle.paged_memory.specs.CopiesMoveLaws.{same_bits, moved_copies}
-use Rattle.paged_memory.specs.Counting.{page_passes, is_resident_place, is_saving_place, frame_passes, is_kept}
+use Rattle.paged_memory.specs.Counting.{is_resident_place, is_saving_place, frame_passes, is_kept}
 use Rattle.paged_memory.specs.CountingLaws.{none_where_pass, some_where_pass, no_where_pass}
 use Rattle.paged_memory.specs.Leaving.{Frees, IsSaving}
 use Rattle.paged_memory.specs.MoveLaws.{KeepsOthers, moved_keeps, stage_before, stage_after, frame_before, frame_after, slot_before, moved_stay, moved_residents, moved_savings, moved_frames, moved_slots}

@@ -1,10 +1,10 @@
 -- Which slots pages give back, one page after another.
-use Rattle.std.specs.Prelude.{◌≡◌, ◌⊎◌, ℕ, zero, suc, ◌+◌, ◌^◌, ◌<◌, ◌≤◌, ◌==◌, true, false, Option, Some, None, option_and_then, option_map, List, [], refl, if◌then◌else◌}
+use Rattle.std.specs.Prelude.{◌≡◌, ℕ, zero, suc, ◌^◌, ◌<◌, ◌≤◌, ◌==◌, false, Option, Some, None, option_and_then, List, [], refl, if◌then◌else◌}
 use Rattle.std.proofs.Common.{sym, ap, ◌∙◌, subst, arith, inl, inr}
 use Rattle.std.proofs.lemmas.Bool.Decides.{eqb_tells, leb_tells}
 use Rattle.frame_pool.specs.FrameValue.{FrameValue}
 use Rattle.page_store.specs.Moves.{given_back}
-use Rattle.page_store.specs.PageValue.{PageValue, Place, Purged}
+use Rattle.page_store.specs.PageValue.{PageValue}
 use Rattle.paged_memory.specs.GivingBack.{GivesNothing}
 use Rattle.paged_memory.specs.Moving.{GivesBelow, GivesIn, HasNothingBelow, SamePage, given_slot, with_slot, slots_below}
 use Rattle.paged_memory.specs.Paged.{PagedValue, page_at}

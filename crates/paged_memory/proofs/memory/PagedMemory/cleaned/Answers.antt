@@ -1,4 +1,4 @@
-use Rattle.std.proofs.Common.{◌≡◌, ◌<◌, ◌^◌, Bool, Some, None, refl, arith, sym, ap, ◌∙◌, subst}
+use Rattle.std.proofs.Common.{◌≡◌, ◌<◌, ◌^◌, Some, None, refl, arith, sym, ap, ◌∙◌, subst}
 use Rattle.page_memory.specs.Entries.{place_of, with_value}
 use Rattle.page_store.specs.Cleaning.{EndsCleaning}
 use Rattle.page_store.specs.PageValue.{Backed}

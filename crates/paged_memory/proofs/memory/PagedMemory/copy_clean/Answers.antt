@@ -1,7 +1,6 @@
-use Rattle.std.proofs.Common.{◌≡◌, Bool, ap, subst}
+use Rattle.std.proofs.Common.{◌≡◌, ap, subst}
 use Rattle.paged_memory.specs.Cleaning.{CopiesAt}
 use Rattle.paged_memory.specs.Paged.{page_at, memory_in, memory_of}
-use Rattle.paged_memory.specs.Soundness.{is_marked}
 use Rattle.paged_memory.proofs.CleaningLaws.{holds_copied, memory_copied}
 use Rattle.paged_memory.proofs.memory.PagedMemory.copy_clean.Goals as goal
 

@@ -1,7 +1,6 @@
 -- The loop over a list of values: how it begins, goes on, stops and ends.
 use Rattle.std.proofs.Common.{◌≡◌, ℕ, ◌+◌, ◌<◌, ◌≤◌, List, [], ◌∷◌, ◌++◌, Result, Ok, Err, length, get_or, drop, refl, sym, ap, ◌∙◌, append_assoc}
-use Rattle.std.proofs.lemmas.List.{drop_all, drop_more}
-use Rattle.std.proofs.lemmas.List.{append-nil}
+use Rattle.std.proofs.lemmas.List.{drop_all, drop_more, append-nil}
 use Rattle.asm_lines.specs.declared.operand.Operand.{Operand}
 use Rattle.asm_lines.specs.declared.fault.FaultKind.{FaultKind}
 use Rattle.asm_statements.specs.Instructions.{map_ok}

@@ -15,8 +15,7 @@ use Rattle.clock_policy.specs.Residents.{in_frame, is_resident_that, residents, 
 use Rattle.clock_policy.specs.Lawful.{Lawful}
 use Rattle.clock_policy.specs.LookupLaws.{any_shadow}
 use Rattle.clock_policy.specs.CountLaws.{number-append, number-split, number-set, IsIn, place_holds}
-use Rattle.clock_policy.specs.ClockLaws.{removed_number, turned_number, sent_number, asked_in}
-use Rattle.clock_policy.specs.ClockLaws.{steady_of}
+use Rattle.clock_policy.specs.ClockLaws.{removed_number, turned_number, sent_number, asked_in, steady_of}
 use Rattle.clock_policy.specs.SteadyLaws.{Based, Steady}
 
 -- Tests that end leave the resident entries.

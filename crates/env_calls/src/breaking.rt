@@ -38,7 +38,7 @@ pub fn serve_break<B: Bus>(env: &mut Env, regs: &mut Regs, bus: &mut B) -> Resul
 }
 
 /// Moves the break to a request that is granted.
-#[tactic(auto, unfolding(crate::specs::Calls::answers), using(crate::specs::LeavingLaws::storing_none))]
+#[tactic(auto, unfolding(crate::specs::Calls::answers), using(crate::specs::LeavingLaws::storing_none, page_memory::specs::ZeroedLaws::gap_counts))]
 fn grant_break<B: Bus>(
     env: &mut Env,
     regs: &mut Regs,

@@ -1,8 +1,7 @@
 -- An image that was made of a file's bytes, and the fault that is told where none was.
-use Rattle.std.proofs.Common.{◌≡◌, ◌∙◌, ℕ, ◌<◌, List, [], length, Option, None, Some, Result, Ok, Err, IfOk, IfErr, ap, refl, subst, sym}
+use Rattle.std.proofs.Common.{◌≡◌, ◌∙◌, ℕ, ◌<◌, List, [], length, Option, None, Some, Result, Ok, Err, IfOk, IfErr, ap, refl, subst, sym, inl, inr}
 use Rattle.std.specs.Prelude.{◌≢◌, ◌↔◌, ◌⊎◌, OnOk}
 use Rattle.std.specs.Str.{IsUtf8}
-use Rattle.std.proofs.Common.{inl, inr}
 use Rattle.asm_lines.specs.declared.fault.FaultKind.{FaultKind}
 use Rattle.elf_image.specs.ElfFiles.{early_fault, file_fault, file_image}
 use Rattle.elf_image.specs.Image.{ImageContent, image_of_words, most_words}

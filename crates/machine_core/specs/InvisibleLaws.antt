@@ -1,5 +1,5 @@
 -- Each event of a run leaves paging invisible, and so does the run.
-use Rattle.std.proofs.Common.{◌≡◌, ℕ, List, [], ◌∷◌, ◌++◌, Some, slice_get, inl, inr, refl, sym, ap, ◌∙◌, subst}
+use Rattle.std.proofs.Common.{◌≡◌, ℕ, List, [], ◌∷◌, ◌++◌, Some, slice_get, inl, inr, refl, sym, ap, ◌∙◌, subst, append_assoc}
 use Rattle.flat_machine.specs.Schedule.{written_out}
 use Rattle.machine_core.specs.Applying.{ServesEvent, Applies, Runs}
 use Rattle.machine_core.specs.Coherent.{EachCoherent}
@@ -11,7 +11,6 @@ use Rattle.machine_sides.specs.Starting.{Begins}
 use Rattle.elf_image.specs.Image.{ImageContent}
 use Rattle.flat_machine.specs.Process.{opening, flat_run}
 use Rattle.std.proofs.lemmas.Option.{slice_get_within}
-use Rattle.std.proofs.Common.{append_assoc}
 use Rattle.machine_core.specs.declared.event.Event.{Event}
 use Rattle.machine_core.specs.declared.event.Event.TheVariants.{Step, Notice, Sweep, Collect, Saved, PageIn, Kill, Purge, Clean, Copy, Cleaned}
 use Rattle.machine_core.specs.declared.event.Reply.{Reply}

@@ -241,8 +241,4 @@ module _ {T : Type 0} where
   grown_lacks entries first (suc count) value more =
       grown_by entries first count value (place_of (first + count) (with_added first count value entries)) refl more (grown_lacks entries first count value)
 
-  -- in a range where a page is missing there is a page number
-  pub lacking_some : (entries : List (ℕ × T)) (first count : ℕ) → LacksOne first count entries → 0 < count
-  lacking_some entries first count lacks = let above = lacks.above in let below = lacks.below in omega (arith, above, below)
-
 pub ruleset mapping = (no_place, inserted)

@@ -1,7 +1,7 @@
 -- Pages: a finite map from page numbers to pages, and what an access to it answers. An access is
 -- refused where its address is no multiple of its width, then where no page is mapped there or the
 -- page lacks the right (unprivileged manual, loads and stores; privileged manual, page faults).
-use Rattle.std.specs.Prelude.{ℕ, zero, suc, ◌+◌, ◌%◌, ◌==◌, Bool, true, false, List, ◌++◌, length, replicate, take, drop, slice_index, Option, Some, None, option_map, Result, Ok, Err}
+use Rattle.std.specs.Prelude.{◌≡◌, ℕ, zero, suc, ◌+◌, ◌%◌, ◌==◌, ◌<◌, ◌≤◌, Bool, true, false, List, ◌++◌, length, replicate, take, drop, slice_index, Option, Some, None, option_map, Result, Ok, Err}
 use Rattle.std.specs.Ordering.{nat_cmp}
 use Rattle.std.specs.FinMap.{FinMap, get, insert}
 use Rattle.byteorder.specs.Endian.{little_number, little_bytes}
@@ -109,3 +109,10 @@ zeroed_at number memory = zeroed_unless (get memory number) memory number
 unfoldable pub with_zeroed : ℕ → ℕ → Pages → Pages
 with_zeroed first zero memory = memory
 with_zeroed first (suc count) memory = zeroed_at (first + count) (with_zeroed first count memory)
+
+-- of so many page numbers from the first on, one at which no page is mapped
+pub record HasGap (first count : ℕ) (memory : Pages) : Type 0 where
+  pub number : ℕ
+  pub above : first ≤ number
+  pub below : number < first + count
+  pub absent : get memory number ≡ None

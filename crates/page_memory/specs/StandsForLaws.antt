@@ -11,19 +11,10 @@ use Rattle.page_memory.specs.declared.words.Access.TheVariants.{Store}
 use Rattle.page_memory.specs.declared.words.Width.{Width}
 use Rattle.page_memory.specs.Words.{page_number, page_offset, bytes_in}
 use Rattle.page_memory.specs.Rights.{may}
-use Rattle.page_memory.specs.Pages.{Page, zero_page, with_zeroed, usable, with_right, overwritten, stored, copied_in}
-use Rattle.page_memory.specs.ZeroedLaws.{added_zeroed}
+use Rattle.page_memory.specs.Pages.{Page, zero_page, with_zeroed, HasGap, usable, with_right, overwritten, stored, copied_in}
+use Rattle.page_memory.specs.ZeroedLaws.{added_zeroed, lacks_page}
 use Rattle.page_memory.specs.AccessLaws.{stored_done, copied_done}
-use Rattle.page_memory.specs.Entries.{pages_of, place_of, value_at, with_value, added_unless, added, with_added, map_by, ChangesPage}
-use Rattle.byteorder.specs.Endian.{little_bytes}
-use Rattle.page_memory.specs.declared.words.Access.{Access}
-use Rattle.page_memory.specs.declared.words.Access.TheVariants.{Store}
-use Rattle.page_memory.specs.declared.words.Width.{Width}
-use Rattle.page_memory.specs.Words.{page_number, page_offset, bytes_in}
-use Rattle.page_memory.specs.Rights.{may}
-use Rattle.page_memory.specs.Pages.{Page, zero_page, with_zeroed, usable, with_right, overwritten, stored, copied_in}
-use Rattle.page_memory.specs.ZeroedLaws.{added_zeroed}
-use Rattle.page_memory.specs.AccessLaws.{stored_done, copied_done}
+use Rattle.page_memory.specs.Entries.{pages_of, place_of, value_at, with_value, added_unless, added, with_added, map_by, ChangesPage, LacksOne}
 use Rattle.page_memory.specs.EntriesLaws.{value_by_place, replaced_value, inserted, put_back}
 
 module _ {S T : Type 0} (f : S → T) where
@@ -86,6 +77,13 @@ unfolding map_by
 map_by-added f entries first count value zeros =
     ap from_entries (each-added f entries first count value ∙ ap (λ p. with_added first count p (map (λ e. (e.0, f e.1)) entries)) zeros)
     ∙ added_zeroed (map (λ e. (e.0, f e.1)) entries) first count
+
+-- entries that lack one of these page numbers stand for pages that do
+pub gap-map_by : {S : Type 0} (f : S → Page) (entries : List (ℕ × S)) (first count : ℕ) → LacksOne first count entries → HasGap first count (map_by f entries)
+unfolding map_by
+gap-map_by f entries first count lacks =
+    lacks_page (map (λ e. (e.0, f e.1)) entries) first count
+    (record { number = lacks.number; above = lacks.above; below = lacks.below; absent = place_of-each f entries lacks.number ∙ lacks.absent })
 
 -- the page that an access may use
 pub usable-map_by : {S : Type 0} (f : S → Page) (entries : List (ℕ × S)) (access : Access) (address : ℕ) → usable (map_by f entries) access address ≡ with_right access (option_map f (option_and_then (λ k. value_at k entries) (place_of (page_number address) entries)))

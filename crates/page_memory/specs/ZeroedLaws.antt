@@ -1,12 +1,12 @@
 -- What memory holds once pages of zeros were mapped in a range.
-use Rattle.std.proofs.Common.{◌≡◌, ℕ, zero, suc, ◌+◌, ◌==◌, ◌&&◌, ◌||◌, nat_lt, nat_le, Bool, true, false, cond, List, option_and_then, Option, Some, None, ap, ◌∙◌, sym, refl, inl, inr, arith}
+use Rattle.std.proofs.Common.{◌≡◌, ℕ, zero, suc, ◌+◌, ◌<◌, ◌==◌, ◌&&◌, ◌||◌, nat_lt, nat_le, Bool, true, false, cond, List, option_and_then, Option, Some, None, ap, ◌∙◌, sym, refl, inl, inr, arith}
 use Rattle.std.proofs.lemmas.Bool.Decides.{nat_tests, eqb_tells}
 use Rattle.std.specs.Ordering.{nat_cmp, eq_by_cmp}
 use Rattle.std.specs.Cmp.{nat_cmp_total}
 use Rattle.std.specs.FinMap.{get, get-insert, from_entries}
-use Rattle.page_memory.specs.Entries.{place_of, value_at, added_unless, added, with_added}
+use Rattle.page_memory.specs.Entries.{place_of, value_at, added_unless, added, with_added, LacksOne}
 use Rattle.page_memory.specs.EntriesLaws.{value_by_place, has_value, inserted, no_value}
-use Rattle.page_memory.specs.Pages.{Page, Pages, zero_page, zeroed_unless, zeroed_at, with_zeroed}
+use Rattle.page_memory.specs.Pages.{Page, Pages, zero_page, zeroed_unless, zeroed_at, with_zeroed, HasGap}
 
 -- a page that was mapped stays as it was; a new page of zeros is where the test says so
 abbrev pub kept_or_zero : Option Page → Bool → Option Page
@@ -76,3 +76,12 @@ added_zeroed entries first zero = refl
 added_zeroed entries first (suc count) =
     zero_case (with_added first count zero_page entries) (first + count) (place_of (first + count) (with_added first count zero_page entries)) refl
     ∙ ap (zeroed_at (first + count)) (added_zeroed entries first count)
+
+-- entries that lack one of these page numbers stand for pages that do
+pub lacks_page : (entries : List (ℕ × Page)) (first count : ℕ) → LacksOne first count entries → HasGap first count (from_entries entries)
+lacks_page entries first count lacks =
+    record { number = lacks.number; above = lacks.above; below = lacks.below; absent = no_value entries lacks.number lacks.absent }
+
+-- where a page is missing among so many, they are not none
+pub gap_counts : (first count : ℕ) (memory : Pages) → HasGap first count memory → 0 < count
+gap_counts first count memory gap = let above = gap.above in let below = gap.below in omega (arith, above, below)

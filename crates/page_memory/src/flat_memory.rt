@@ -1,7 +1,7 @@
 ghost use Rattle.std.specs.Prelude.{◌≡◌, ◌+◌, ◌≤◌, ◌^◌, ◌<◌, Ok, Err, IfOk, IfErr, OnOk, OnErr, length, IsErr, None};
 ghost use Rattle.std.specs.FinMap as map;
 ghost use Rattle.page_memory.specs.declared.words.Access.{Access};
-ghost use Rattle.page_memory.specs.Pages.{answer_by, number_at, aligned_page};
+ghost use Rattle.page_memory.specs.Pages.{answer_by, number_at, aligned_page, HasGap};
 ghost use Rattle.page_memory.specs.Memory.{unreserved, fetched, loaded, stored, copied_out, copied_in, byte_at, with_zeroed, loaded_reserved, stored_conditionally};
 ghost use Rattle.page_memory.specs.Words.{page_offset};
 
@@ -62,12 +62,12 @@ impl FlatMemory {
     }
 
     /// Maps pages of zeros, to be read and written, at so many page numbers from the first on, wherever
-    /// none is mapped: all of them, or none where memory is wanting.
+    /// none is mapped: all of them, or none where memory is wanting, as it can be only where one is missing.
     pub fn map_zeroed(&mut self, first: u32, count: u32) -> Result<(), AllocError>
         requires { first + count ≤ 2 ^ 20 }
         ensures ok { OnOk result (self.new ≡ with_zeroed first count self.old) }
         ensures err { OnErr result (self.new ≡ self.old) }
-        ensures some { IsErr result → 0 < count }
+        ensures missing { IsErr result → HasGap first count self.old.pages }
     {
         self.pages.map_zeroed(first, count)
     }

@@ -1,6 +1,6 @@
 ghost use Rattle.std.specs.Prelude.{◌≡◌, ◌+◌, ◌≤◌, ◌^◌, ◌<◌, ◌%◌, Ok, Err, MatchResult, IfOk, IfErr, OnOk, OnErr, length, IsErr, None};
 ghost use Rattle.std.specs.FinMap as map;
-ghost use Rattle.page_memory.specs.Pages.{usable, aligned_page, fetched, loaded, stored, answer_by, number_at, copied_out, copied_in, byte_at, with_zeroed};
+ghost use Rattle.page_memory.specs.Pages.{usable, aligned_page, fetched, loaded, stored, answer_by, number_at, copied_out, copied_in, byte_at, with_zeroed, HasGap};
 ghost use Rattle.page_memory.specs.declared.words.Access.{Access};
 ghost use Rattle.page_memory.specs.Words.{bytes_in, page_offset};
 ghost use Rattle.page_memory.specs.Reply.{answered};
@@ -69,13 +69,13 @@ impl FlatPages {
     }
 
     /// Maps pages of zeros, to be read and written, at so many page numbers from the first on, wherever
-    /// none is mapped: all of them, or none where memory is wanting.
-    #[tactic(auto, using(crate::specs::ZeroedLaws::added_zeroed, crate::specs::EntriesLaws::lacking_some))]
+    /// none is mapped: all of them, or none where memory is wanting, as it can be only where one is missing.
+    #[tactic(auto, using(crate::specs::ZeroedLaws::added_zeroed, crate::specs::ZeroedLaws::lacks_page))]
     pub fn map_zeroed(&mut self, first: u32, count: u32) -> Result<(), AllocError>
         requires { first + count ≤ 2 ^ 20 }
         ensures ok { OnOk result (self.new ≡ with_zeroed first count self.old) }
         ensures err { OnErr result (self.new ≡ self.old) }
-        ensures some { IsErr result → 0 < count }
+        ensures missing { IsErr result → HasGap first count self.old }
     {
         self.recent = RecentPages::new();
         self.pages.add_zeroed(self.alloc, first, count)

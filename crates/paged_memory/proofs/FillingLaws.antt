@@ -3,8 +3,7 @@ use Rattle.std.specs.Prelude.{◌≡◌, ℕ, ◌^◌, ◌<◌, ◌==◌, ◌/�
 use Rattle.std.proofs.Common.{sym, ap, ◌∙◌, subst, eq-eqb, true≢false}
 use Rattle.frame_pool.specs.FrameValue.{FrameValue}
 use Rattle.page_memory.specs.Entries.{place_of, value_at, with_value}
-use Rattle.page_store.specs.Keeping.{Keeping}
-use Rattle.page_store.specs.Keeping.{NoSlot}
+use Rattle.page_store.specs.Keeping.{Keeping, NoSlot}
 use Rattle.page_memory.specs.Pages.{Page}
 use Rattle.page_store.specs.CopyValue.{CopyValue}
 use Rattle.page_store.specs.PageValue.{BackedAt, PageValue, Place, Fresh, Resident, Leaving, Saving, Away, Purged, frame_of, content, Backed}

@@ -8,12 +8,12 @@ use Rattle.page_memory.specs.declared.words.Access.TheVariants.{Load, Store}
 use Rattle.page_memory.specs.declared.rights.Rights.{Rights}
 use Rattle.std.proofs.lemmas.Option.{same_Some, none-some}
 use Rattle.page_memory.specs.Rights.{may, read_write}
-use Rattle.page_memory.specs.Pages.{Page, with_zeroed}
+use Rattle.page_memory.specs.Pages.{Page, with_zeroed, HasGap}
 use Rattle.page_memory.specs.Memory as whole
 use Rattle.page_memory.specs.Reservations.{Reservations}
-use Rattle.page_memory.specs.Entries.{place_of, added, added_unless, with_added}
+use Rattle.page_memory.specs.Entries.{place_of, added, added_unless, with_added, LacksOne}
 use Rattle.page_memory.specs.EntriesLaws.{inserted, place_stays}
-use Rattle.page_memory.specs.StandsForLaws.{entry-changes, map_by-added}
+use Rattle.page_memory.specs.StandsForLaws.{entry-changes, map_by-added, gap-map_by}
 use Rattle.page_store.specs.PageValue.{PageValue, Fresh, fresh_zero_page}
 use Rattle.sv32_table.specs.Entry.{blank}
 use Rattle.sv32_table.specs.EntryAt.{entry_at}
@@ -74,6 +74,11 @@ module _ {S : Type 0} where
   pub memory_zeroed : (held : S → List ℕ) (pages : List (ℕ × PageValue S)) (first count : ℕ) → flat_pages held (with_added first count fresh_zero_page pages) ≡ with_zeroed first count (flat_pages held pages)
   unfolding flat_pages zero_bytes
   memory_zeroed held pages first count = map_by-added (flat_page held) pages first count fresh_zero_page refl
+
+  -- a page number without an entry has no page in the memory that they stand for
+  pub gap_shown : (held : S → List ℕ) (pages : List (ℕ × PageValue S)) (first count : ℕ) → LacksOne first count pages → HasGap first count (flat_pages held pages)
+  unfolding flat_pages
+  gap_shown held pages first count lacks = gap-map_by (flat_page held) pages first count lacks
 
 -- the pages that were there stay, and the others are pages of zeros
 module _ {S : Type 0} where

@@ -5,8 +5,7 @@ use Rattle.frame_pool.specs.FrameValue.{FrameValue}
 use Rattle.page_memory.specs.Words.{page_number}
 use Rattle.page_store.specs.Moves.{IfAbsent, IfAway, IfResident, IfSaved}
 use Rattle.page_store.specs.PageValue.{PageValue, Place, Fresh, Resident, Leaving, Saving, Away, Purged, frame_of, slot_of, page_state_of}
-use Rattle.page_store.specs.Keeping.{Keeping}
-use Rattle.page_store.specs.Keeping.{NoSlot, Saved, Unbacked, Cleaning, CopyOut}
+use Rattle.page_store.specs.Keeping.{Keeping, NoSlot, Saved, Unbacked, Cleaning, CopyOut}
 use Rattle.page_store.specs.declared.state.PageState.{PageState}
 use Rattle.page_store.specs.declared.state.PageState.TheVariants as stage
 use Rattle.sv32_table.specs.Entry.{page_entry}

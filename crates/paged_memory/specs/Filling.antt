@@ -4,8 +4,7 @@ use Rattle.frame_pool.specs.FrameValue.{FrameValue}
 use Rattle.swap_slots.specs.Slot.{Rose}
 use Rattle.page_store.specs.PageValue.{PageValue, Place, Fresh, Away, content, Backed, failures_at, kept_digest, Matches}
 use Rattle.page_store.specs.Moves.{Filled, IfAbsent, IfAway, IfResident}
-use Rattle.page_store.specs.Keeping.{is_unbacked, Keeping}
-use Rattle.page_store.specs.Keeping.{NoSlot, Saved, Unbacked, Cleaning, CopyOut}
+use Rattle.page_store.specs.Keeping.{is_unbacked, Keeping, NoSlot, Saved, Unbacked, Cleaning, CopyOut}
 use Rattle.page_store.specs.declared.refusal.FillFault.{FillFault}
 use Rattle.page_store.specs.declared.refusal.FillFault.TheVariants as fill
 use Rattle.sv32_table.specs.EntryAt.{has_table}

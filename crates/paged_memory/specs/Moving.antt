@@ -3,13 +3,12 @@ use Rattle.std.specs.Prelude.{◌≡◌, ℕ, zero, suc, ◌^◌, ◌<◌, ◌�
 use Rattle.frame_pool.specs.FrameValue.{FrameValue}
 use Rattle.page_memory.specs.Words.{page_number, page_offset}
 use Rattle.page_store.specs.JobValue.{JobValue, SavedValue}
-use Rattle.page_store.specs.Keeping.{kept}
+use Rattle.page_store.specs.Keeping.{kept, Keeping, NoSlot, Saved, Unbacked, Cleaning, CopyOut, is_copy_out}
 use Rattle.page_store.specs.Moves.{given_back}
 use Rattle.page_store.specs.PageValue.{PageValue, Place, Fresh, Resident, Leaving, Saving, Away, Purged, changed, slot_of}
 use Rattle.page_store.specs.declared.answer.Collected.{Collected}
 use Rattle.page_store.specs.declared.answer.SaveRefusal.{SaveRefusal}
 use Rattle.page_store.specs.declared.refusal.LeaveRefusal.{LeaveRefusal}
-use Rattle.page_store.specs.Keeping.{Keeping, NoSlot, Saved, Unbacked, Cleaning, CopyOut, is_copy_out}
 use Rattle.sv32_table.specs.Entry.{blank, page_entry}
 use Rattle.sv32_table.specs.EntryAt.{entry_at, ChangesEntry, SameTables, AddsTable, unaccessed_entry, dirty_of}
 use Rattle.tlb_core.specs.Cache.{doomed}

@@ -3,10 +3,9 @@ use Rattle.std.proofs.Common.{◌≡◌, ℕ, ◌+◌, ◌^◌, ◌<◌, ◌≤�
 use Rattle.std.specs.Prelude.{IsTrue}
 use Rattle.frame_pool.specs.FrameValue.{FrameValue}
 use Rattle.page_store.specs.JobValue.{JobValue, SavedValue}
-use Rattle.page_store.specs.Keeping.{kept}
+use Rattle.page_store.specs.Keeping.{kept, Keeping, NoSlot, Saved, Unbacked, Cleaning, CopyOut, is_copy_out}
 use Rattle.page_store.specs.Moves.{copy_of, IfSaving}
 use Rattle.page_store.specs.PageValue.{PageValue, Place, Fresh, Resident, Leaving, Saving, Away, Purged, frame_of, slot_of, page_state_of, is_out, changed}
-use Rattle.page_store.specs.Keeping.{Keeping, NoSlot, Saved, Unbacked, Cleaning, CopyOut, is_copy_out}
 use Rattle.page_store.specs.declared.state.PageState.TheVariants as stage
 use Rattle.sv32_table.specs.EntryAt.{entry_at}
 use Rattle.paged_memory.specs.AlikeLaws.{SavingsStay}

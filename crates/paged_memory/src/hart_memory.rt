@@ -364,7 +364,7 @@ impl<'a, L: Ledger, S: SwapSlot, O: Opening> Bus for HartMemory<'a, L, S, O> {
         }
     }
 
-    #[tactic(auto, using(page_memory::specs::EntriesLaws::lacking_some, crate::proofs::Marking::bounds_same))]
+    #[tactic(auto, using(crate::proofs::GrowthLaws::gap_shown, crate::proofs::Marking::bounds_same))]
     fn map_zeroed(&mut self, first: u32, count: u32) -> Result<(), AllocError> {
         self.memory.map_zeroed(first, count)
     }

@@ -1,8 +1,7 @@
 -- The pages of a program make an image.
 use Rattle.std.proofs.Common.{◌≡◌, ℕ, zero, suc, ◌+◌, ◌*◌, ◌/◌, ◌<◌, ◌≤◌, List, [], ◌∷◌, ◌++◌, length, map, Bool, true, false, ◌&&◌, ◌||◌, ◌==◌, Option, Some, None, arith, refl, sym, ap, ◌∙◌, subst, length-append, add-zero, eq-eqb}
-use Rattle.std.specs.Prelude.{Result, Ok, Err}
+use Rattle.std.specs.Prelude.{Result, Ok, Err, ⊤, nat_le, nat_lt, slice_index_or, codes}
 use Rattle.std.specs.Result.{result_err, IsOk}
-use Rattle.std.specs.Prelude.{⊤, nat_le, nat_lt, slice_index_or, codes}
 use Rattle.std.specs.List.{range_with_len, list_any}
 use Rattle.std.proofs.lemmas.Bool.Decides.{nat_tests}
 use Rattle.std.proofs.lemmas.List.Folds.{list_any_at, list_any-append}

@@ -11,10 +11,9 @@ use Rattle.text_lines.specs.Text.{lines_of}
 use Rattle.rv_asm.specs.Program.{size}
 use Rattle.rv_asm.specs.FirstPass.{Progress, no_lines, with_lines, first_pass}
 use Rattle.rv_asm.specs.SecondPass.{Sections, second_pass}
-use Rattle.rv_asm.specs.Listing.{Assembly, ListingContent, ListsTold, unless_empty, laid_out, assembled}
+use Rattle.rv_asm.specs.Listing.{Assembly, ListingContent, ListsTold, unless_empty, laid_out, assembled, Lists, entry_point_of, image_of}
 use Rattle.rv_asm.specs.Assembly.{HasProgram, HoldsParts, Assembles, FirstFault, in_line, no_text, in_part, IsFirstFault}
 use Rattle.elf_image.specs.Image.{ImageContent}
-use Rattle.rv_asm.specs.Listing.{Lists, entry_point_of, image_of}
 use Rattle.rv_asm.proofs.Entries.{enters}
 use Rattle.rv_asm.proofs.LineLaws.{LinesSaid, lines_said, program_read}
 use Rattle.rv_asm.proofs.PartLaws.{pass_holds, pass_stops}

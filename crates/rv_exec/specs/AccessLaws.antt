@@ -2,11 +2,10 @@
 use Rattle.std.specs.Prelude.{◌≡◌, ℕ, zero, Bool, [], Result, Ok, Err, Contains, IsOk}
 use Rattle.std.proofs.Common.{arith, ap, sym, subst, refl, ◌∙◌}
 use Rattle.page_memory.specs.declared.fault.MemoryFault.{MemoryFault}
-use Rattle.page_memory.specs.Words.{page_number}
+use Rattle.page_memory.specs.Words.{page_number, bytes_in}
 use Rattle.page_memory.specs.declared.words.Width.TheVariants.{Word}
 use Rattle.page_memory.specs.Pages.{Pages, answer_by}
 use Rattle.page_memory.specs.Pages as plain
-use Rattle.page_memory.specs.Words.{bytes_in}
 use Rattle.page_memory.specs.Reservations.{has_reserved}
 use Rattle.page_memory.specs.Memory.{Memory, loaded, stored, replaced, written, loaded_reserved, reserving, stored_conditionally, stored_if}
 use Rattle.rv_isa.specs.declared.kinds.LoadKind.{LoadKind}

@@ -6,6 +6,7 @@ ghost use Rattle.page_memory.specs.Words.{page_number, page_offset};
 ghost use Rattle.page_memory.specs.Memory.{Memory, fetched, loaded, stored, replaced};
 ghost use Rattle.page_memory.specs.Memory.{loaded_reserved, stored_conditionally, copied_out};
 ghost use Rattle.page_memory.specs.Memory.{copied_in, with_zeroed};
+ghost use Rattle.page_memory.specs.Pages.{HasGap};
 
 use page_memory::{MemoryFault, Width};
 use rv_isa::AmoKind;
@@ -166,12 +167,12 @@ pub trait Bus {
         ensures kept { keeps self.old self.new };
 
     /// Maps pages of zeros that may be read and written at so many page numbers from the first on, wherever
-    /// none is mapped: all of them, or none where memory is wanting.
+    /// none is mapped: all of them, or none where memory is wanting, as it can be only where one is missing.
     fn map_zeroed(&mut self, first: u32, count: u32) -> Result<(), AllocError>
         requires within { first + count ≤ 2 ^ 20 }
         ensures mapped { OnOk result (memory self.new ≡ with_zeroed first count (memory self.old)) }
         ensures refused { OnErr result (memory self.new ≡ memory self.old) }
-        ensures some { IsErr result → 0 < count }
+        ensures missing { IsErr result → HasGap first count (memory self.old).pages }
         ensures bound { Bounds (within self.old) (within self.new) [] [] }
         ensures kept { keeps self.old self.new };
 

@@ -8,8 +8,7 @@ use Rattle.page_policies.specs.Strings.{is_page, without}
 use Rattle.page_policies.specs.QueueLaws.{same}
 use Rattle.page_policies.specs.Ordered.{to_front}
 use Rattle.page_policies.specs.DemandLaws.{one}
-use Rattle.whole_strings.specs.LruDepths.{depth, IsLruCurve}
-use Rattle.whole_strings.specs.LruDepths.{depth as depth_of_page}
+use Rattle.whole_strings.specs.LruDepths.{depth, IsLruCurve, depth as depth_of_page}
 use Rattle.whole_strings.specs.LruDepthLaws.{tails, referred, Counting, counting_along, counting_begins, counting_end, count_small}
 use Rattle.whole_strings.specs.LastPlaces.{sum_from}
 use Rattle.whole_strings.specs.declared.last_places.LastPlaces.{LastPlaces}

@@ -1,8 +1,7 @@
 -- one entry has another kind
-use Rattle.std.specs.Prelude.{◌≡◌, true, ◌∷◌, List}
+use Rattle.std.specs.Prelude.{◌≡◌, true, ◌∷◌, List, ◌++◌}
 use Rattle.std.proofs.Common.{sym, ap, ◌∙◌, subst}
 use Rattle.page_ring.specs.Linked.{Cell, is_at}
-use Rattle.std.specs.Prelude.{◌++◌}
 use Rattle.page_ring.specs.Chain.{Chain, cells_of, Changed, changes_at, mark_step, of_kind}
 use Rattle.page_ring.proofs.links.Links.mark.Goals as goal
 

@@ -1,8 +1,7 @@
 -- one node goes
-use Rattle.std.specs.Prelude.{◌≡◌, true, List}
+use Rattle.std.specs.Prelude.{◌≡◌, true, List, ◌++◌}
 use Rattle.std.proofs.Common.{sym, ap, ◌∙◌, subst}
 use Rattle.page_ring.specs.Linked.{Cell, is_at}
-use Rattle.std.specs.Prelude.{◌++◌}
 use Rattle.page_ring.specs.Chain.{Chain, cells_of, Changed, changes_at, remove_step, held_node}
 use Rattle.page_ring.proofs.links.Links.remove.Goals as goal
 

@@ -1,7 +1,6 @@
 //! How a guest ended: as a status, and in words.
 
-ghost use Rattle.std.specs.Prelude.{◌≡◌, ◌+◌};
-ghost use Rattle.rv_exec.specs.Causes.{cause_number};
+ghost use Rattle.std.specs.Prelude.{◌≡◌};
 ghost use Rattle.guest_cli.specs.GuestStatus.{guest_status};
 
 use flat_machine::{End, KillCause};
@@ -16,7 +15,7 @@ pub fn status_of(end: End) -> u8
 {
     match end {
         End::Exited(status) => (status % 256) as u8,
-        End::Trapped { cause, .. } => status_of_trap(cause),
+        End::Trapped { cause, .. } => 128 + cause.number() as u8,
         End::Killed(_) => 125,
     }
 }
@@ -31,22 +30,6 @@ pub(crate) fn tell_end<E: Write>(end: End, steps: u64, err: &mut E) {
     let end = Ending(end);
     let _ = writeln!(err, "guest: {end} after {steps} steps: {words}");
     let _ = err.flush();
-}
-
-/// 128 and the number of a trap.
-fn status_of_trap(cause: Cause) -> u8
-    ensures { result ≡ 128 + cause_number cause }
-{
-    match cause {
-        Cause::InstructionMisaligned => 128,
-        Cause::IllegalInstruction => 130,
-        Cause::Breakpoint => 131,
-        Cause::LoadMisaligned => 132,
-        Cause::StoreMisaligned => 134,
-        Cause::InstructionPageFault => 140,
-        Cause::LoadPageFault => 141,
-        Cause::StorePageFault => 143,
-    }
 }
 
 /// What a trap means.

@@ -44,19 +44,12 @@ impl<L: Ledger, S: SwapSlot, C: Clock> Shared<L, S, C> {
         let before = Snapshot::of(&*held);
         let slots_before = Snapshot::of(&*slots);
         let reply = held.copy_clean_of(key, &mut *slots);
-        let slots_after = Snapshot::of(&*slots);
-        let after = Snapshot::of(&*held);
-        drop(slots);
-        drop(held);
         if reply.is_none() {
             self.locks.misplace();
         }
         Some(HoldWithSlots {
-            process: Change { before, after },
-            slots: Change {
-                before: slots_before,
-                after: slots_after,
-            },
+            process: Change::since(before, &*held),
+            slots: Change::since(slots_before, &*slots),
             reply,
         })
     }

@@ -29,6 +29,19 @@ pub struct Change<T> {
     pub after: Snapshot<T>,
 }
 
+impl<T> Change<T> {
+    /// From what stood there to what stands there now.
+    pub(crate) fn since(before: Snapshot<T>, now: &T) -> Self
+        ensures before { result.before.value ≡ before.value }
+        ensures after { result.after.value ≡ now.now }
+    {
+        Change {
+            before,
+            after: Snapshot::of(now),
+        }
+    }
+}
+
 /// A hold of the pager's lock and a process's.
 #[derive(Drop)]
 pub struct HoldOfBoth<L: Ledger, S: SwapSlot, C: Clock, A: Drop> {
@@ -53,6 +66,52 @@ pub struct HoldOfAll<L: Ledger, S: SwapSlot, C: Clock, A: Drop> {
     pub reply: A,
 }
 
+/// What stood under the three locks when they were taken.
+#[derive(Drop)]
+struct Found<L: Ledger, S: SwapSlot, C: Clock> {
+    desk: Snapshot<Desk<L, C>>,
+    process: Snapshot<Held<L, S>>,
+    slots: Snapshot<SlotPool<S>>,
+}
+
+impl<L: Ledger, S: SwapSlot, C: Clock> Found<L, S, C> {
+    fn under(desk: &Desk<L, C>, held: &Held<L, S>, slots: &SlotPool<S>) -> Self
+        ensures desk { result.desk.value ≡ desk.now }
+        ensures process { result.process.value ≡ held.now }
+        ensures slots { result.slots.value ≡ slots.now }
+    {
+        Found {
+            desk: Snapshot::of(desk),
+            process: Snapshot::of(held),
+            slots: Snapshot::of(slots),
+        }
+    }
+
+    /// The hold whose call has left this under them.
+    fn left<A: Drop>(
+        self,
+        desk: &Desk<L, C>,
+        held: &Held<L, S>,
+        slots: &SlotPool<S>,
+        reply: A,
+    ) -> HoldOfAll<L, S, C, A>
+        ensures desk_before { result.desk.before.value ≡ self.desk.value }
+        ensures desk_after { result.desk.after.value ≡ desk.now }
+        ensures process_before { result.process.before.value ≡ self.process.value }
+        ensures process_after { result.process.after.value ≡ held.now }
+        ensures slots_before { result.slots.before.value ≡ self.slots.value }
+        ensures slots_after { result.slots.after.value ≡ slots.now }
+        ensures reply { result.reply ≡ reply }
+    {
+        HoldOfAll {
+            desk: Change::since(self.desk, desk),
+            process: Change::since(self.process, held),
+            slots: Change::since(self.slots, slots),
+            reply,
+        }
+    }
+}
+
 impl<L: Ledger, S: SwapSlot, C: Clock> Shared<L, S, C> {
     /// Asks the list, and answers with the accessed bit of the page that it names. A victim is unmapped.
     ///
@@ -72,17 +131,15 @@ impl<L: Ledger, S: SwapSlot, C: Clock> Shared<L, S, C> {
             let mut desk = self.desk.lock(rt);
             let before = Snapshot::of(&*desk);
             let Some(key) = desk.pager().question() else {
-                let after = Snapshot::of(&*desk);
                 return Err(HoldOfDesk {
-                    desk: Change { before, after },
+                    desk: Change::since(before, &*desk),
                     is_lost: false,
                 });
             };
             let Some(lock) = self.locks.get(key.process) else {
                 desk.mark_unsound();
-                let after = Snapshot::of(&*desk);
                 return Err(HoldOfDesk {
-                    desk: Change { before, after },
+                    desk: Change::since(before, &*desk),
                     is_lost: true,
                 });
             };
@@ -112,34 +169,16 @@ impl<L: Ledger, S: SwapSlot, C: Clock> Shared<L, S, C> {
         let lock = self.locks.get(key.process)?;
         let (mut desk, mut held) = self.lock_both(rt, lock);
         let mut slots = self.slots.lock(rt);
-        let desk_before = Snapshot::of(&*desk);
-        let held_before = Snapshot::of(&*held);
-        let slots_before = Snapshot::of(&*slots);
+        let found = Found::under(&*desk, &*held, &*slots);
         let reply = desk.collect(&mut *held, key, &mut *slots);
-        let slots_after = Snapshot::of(&*slots);
-        let held_after = Snapshot::of(&*held);
-        let desk_after = Snapshot::of(&*desk);
+        let hold = found.left(&*desk, &*held, &*slots, reply);
         drop(slots);
         drop(held);
         drop(desk);
-        if has_settled(&reply) {
+        if has_settled(&hold.reply) {
             self.locks.signals().tell_page(key.process);
         }
-        Some(HoldOfAll {
-            desk: Change {
-                before: desk_before,
-                after: desk_after,
-            },
-            process: Change {
-                before: held_before,
-                after: held_after,
-            },
-            slots: Change {
-                before: slots_before,
-                after: slots_after,
-            },
-            reply,
-        })
+        Some(hold)
     }
 
     /// Ends the save of a page, whose slot was written under no lock.
@@ -160,22 +199,15 @@ impl<L: Ledger, S: SwapSlot, C: Clock> Shared<L, S, C> {
         let desk_before = Snapshot::of(&*desk);
         let held_before = Snapshot::of(&*held);
         let reply = desk.saved(&mut *held, job);
-        let held_after = Snapshot::of(&*held);
-        let desk_after = Snapshot::of(&*desk);
+        let hold = HoldOfBoth {
+            desk: Change::since(desk_before, &*desk),
+            process: Change::since(held_before, &*held),
+            reply,
+        };
         drop(held);
         drop(desk);
         self.locks.signals().tell_page(process);
-        Some(HoldOfBoth {
-            desk: Change {
-                before: desk_before,
-                after: desk_after,
-            },
-            process: Change {
-                before: held_before,
-                after: held_after,
-            },
-            reply,
-        })
+        Some(hold)
     }
 
     /// An ended process gives its frames and slots back, and the list forgets its pages.
@@ -195,25 +227,9 @@ impl<L: Ledger, S: SwapSlot, C: Clock> Shared<L, S, C> {
         let lock = self.locks.get(number)?;
         let (mut desk, mut held) = self.lock_both(rt, lock);
         let mut slots = self.slots.lock(rt);
-        let desk_before = Snapshot::of(&*desk);
-        let held_before = Snapshot::of(&*held);
-        let slots_before = Snapshot::of(&*slots);
+        let found = Found::under(&*desk, &*held, &*slots);
         let reply = desk.purge(&mut *held, number, &mut *slots);
-        Some(HoldOfAll {
-            desk: Change {
-                before: desk_before,
-                after: Snapshot::of(&*desk),
-            },
-            process: Change {
-                before: held_before,
-                after: Snapshot::of(&*held),
-            },
-            slots: Change {
-                before: slots_before,
-                after: Snapshot::of(&*slots),
-            },
-            reply,
-        })
+        Some(found.left(&*desk, &*held, &*slots, reply))
     }
 }
 
@@ -232,14 +248,8 @@ fn sweep_on<L: Ledger, S: SwapSlot, C: Clock>(
     let held_before = Snapshot::of(&*held);
     let reply = desk.sweep(held);
     HoldOfBoth {
-        desk: Change {
-            before: desk_before,
-            after: Snapshot::of(&*desk),
-        },
-        process: Change {
-            before: held_before,
-            after: Snapshot::of(&*held),
-        },
+        desk: Change::since(desk_before, &*desk),
+        process: Change::since(held_before, &*held),
         reply,
     }
 }

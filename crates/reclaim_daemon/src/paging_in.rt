@@ -63,16 +63,15 @@ impl<L: Ledger, S: SwapSlot, C: Clock> Shared<L, S, C> {
         let (mut desk, held) = self.lock_both(rt, lock);
         let before = Snapshot::of(&*desk);
         let reply = desk.admit(&*held, key);
-        let after = Snapshot::of(&*desk);
-        let process = Snapshot::of(&*held);
+        let hold = HoldOfPager {
+            desk: Change::since(before, &*desk),
+            process: Snapshot::of(&*held),
+            reply,
+        };
         drop(held);
         drop(desk);
         self.locks.signals().daemon().ring();
-        Some(HoldOfPager {
-            desk: Change { before, after },
-            process,
-            reply,
-        })
+        Some(hold)
     }
 
     /// Takes an admission back that was not loaded.
@@ -92,17 +91,16 @@ impl<L: Ledger, S: SwapSlot, C: Clock> Shared<L, S, C> {
         let (mut desk, held) = self.lock_both(rt, lock);
         let before = Snapshot::of(&*desk);
         let reply = desk.undo(&*held, admission);
-        let after = Snapshot::of(&*desk);
-        let process = Snapshot::of(&*held);
+        let hold = HoldOfPager {
+            desk: Change::since(before, &*desk),
+            process: Snapshot::of(&*held),
+            reply,
+        };
         drop(held);
         drop(desk);
         self.locks.signals().tell_page(number);
         self.locks.signals().daemon().ring();
-        Some(HoldOfPager {
-            desk: Change { before, after },
-            process,
-            reply,
-        })
+        Some(hold)
     }
 
     /// Brings an absent page in: it is admitted, and then loaded once the pager is let go and the gate was told.
@@ -140,20 +138,14 @@ impl<L: Ledger, S: SwapSlot, C: Clock> Shared<L, S, C> {
         let desk_before = Snapshot::of(&*desk);
         let held_before = Snapshot::of(&*held);
         let admitted = desk.admit(&*held, key);
-        let desk_after = Snapshot::of(&*desk);
+        let desk_changed = Change::since(desk_before, &*desk);
         let wants_frames = desk.wants_frames();
         drop(desk);
         self.heed_admission(&admitted, wants_frames);
         let reply = load_admitted(&mut *held, gate, key, admitted);
         HoldOfBoth {
-            desk: Change {
-                before: desk_before,
-                after: desk_after,
-            },
-            process: Change {
-                before: held_before,
-                after: Snapshot::of(&*held),
-            },
+            desk: desk_changed,
+            process: Change::since(held_before, &*held),
             reply,
         }
     }

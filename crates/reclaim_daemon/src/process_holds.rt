@@ -3,6 +3,7 @@
 //! Where a process is not the one of its lock's number no call is made, and the machine is not sound from then on.
 
 ghost use Rattle.std.specs.Prelude.{◌≡◌, ◌≤◌, ◌↔◌, nat_le, IfSome, IsNone, Some};
+ghost use Rattle.std.specs.Sync.Mutex.{mutex_guard_value};
 ghost use Rattle.held_process.specs.Cleaning.{BeginsWhere, CleansWhere};
 ghost use Rattle.held_process.specs.Holding.{RunsWhere, NoticesWhere, KillsNumberWhere};
 ghost use Rattle.held_process.specs.Holding.{KillsSpentWhere};
@@ -14,8 +15,8 @@ use held_process::{Begun, Held};
 use page_store::{Cleaned, CleanedJob};
 use space_core::Slice;
 use std::snapshot::Snapshot;
-use std::sync::Wait;
 use std::sync::ledger::Ledger;
+use std::sync::{MutexGuard, Wait};
 use swap_slots::SwapSlot;
 
 /// A hold of a process's lock, and what its call was answered with.
@@ -23,6 +24,24 @@ use swap_slots::SwapSlot;
 pub struct HoldOfProcess<L: Ledger, S: SwapSlot, A: Drop> {
     pub process: Change<Held<L, S>>,
     pub reply: A,
+}
+
+/// A process as it stood when its lock was taken.
+#[derive(Drop)]
+struct Found<L: Ledger, S: SwapSlot> {
+    process: Snapshot<Held<L, S>>,
+    had_ended: bool,
+}
+
+impl<L: Ledger, S: SwapSlot> Found<L, S> {
+    fn under(held: &Held<L, S>) -> Self
+        ensures { result.process.value ≡ held.now }
+    {
+        Found {
+            process: Snapshot::of(held),
+            had_ended: held.side().end().is_some(),
+        }
+    }
 }
 
 impl<L: Ledger, S: SwapSlot> ProcessLocks<L, S> {
@@ -42,20 +61,13 @@ impl<L: Ledger, S: SwapSlot> ProcessLocks<L, S> {
     {
         let lock = self.get(number)?;
         let mut held = lock.lock(rt);
-        let before = Snapshot::of(&*held);
-        let had_ended = held.side().end().is_some();
+        let found = Found::under(&*held);
         let reply = held.slice_of(rt, number, hart, budget);
-        let after = Snapshot::of(&*held);
-        let news = self.news(number, &*held, had_ended);
-        drop(held);
-        if has_run(&reply) {
+        let hold = self.publish(number, held, found, reply);
+        if has_run(&hold.reply) {
             self.signals().tell_ran(number);
         }
-        self.tell(number, news);
-        Some(HoldOfProcess {
-            process: Change { before, after },
-            reply,
-        })
+        Some(hold)
     }
 
     /// A hart of a process drops its translations that are to be dropped.
@@ -75,15 +87,10 @@ impl<L: Ledger, S: SwapSlot> ProcessLocks<L, S> {
         let mut held = lock.lock(rt);
         let before = Snapshot::of(&*held);
         let reply = held.take_notices_of(number, hart);
-        let after = Snapshot::of(&*held);
-        drop(held);
         if !reply {
             self.misplace();
         }
-        Some(HoldOfProcess {
-            process: Change { before, after },
-            reply,
-        })
+        Some(let_go(held, before, reply))
     }
 
     /// The machine ends a process, unless it has ended; how far it has come is published.
@@ -101,17 +108,9 @@ impl<L: Ledger, S: SwapSlot> ProcessLocks<L, S> {
     {
         let lock = self.get(number)?;
         let mut held = lock.lock(rt);
-        let before = Snapshot::of(&*held);
-        let had_ended = held.side().end().is_some();
+        let found = Found::under(&*held);
         let reply = held.kill_number(rt, number, cause);
-        let after = Snapshot::of(&*held);
-        let news = self.news(number, &*held, had_ended);
-        drop(held);
-        self.tell(number, news);
-        Some(HoldOfProcess {
-            process: Change { before, after },
-            reply,
-        })
+        Some(self.publish(number, held, found, reply))
     }
 
     /// The machine ends a process for want of a place for its pages, where it was tried for as often as a process may be. Answers
@@ -129,17 +128,9 @@ impl<L: Ledger, S: SwapSlot> ProcessLocks<L, S> {
     {
         let lock = self.get(number)?;
         let mut held = lock.lock(rt);
-        let before = Snapshot::of(&*held);
-        let had_ended = held.side().end().is_some();
+        let found = Found::under(&*held);
         let reply = held.kill_spent(rt, number, self.most_tries());
-        let after = Snapshot::of(&*held);
-        let news = self.news(number, &*held, had_ended);
-        drop(held);
-        self.tell(number, news);
-        Some(HoldOfProcess {
-            process: Change { before, after },
-            reply,
-        })
+        Some(self.publish(number, held, found, reply))
     }
 
     /// Begins to clean the first page of a process from this number on that is resident and changed.
@@ -159,15 +150,10 @@ impl<L: Ledger, S: SwapSlot> ProcessLocks<L, S> {
         let mut held = lock.lock(rt);
         let before = Snapshot::of(&*held);
         let reply = held.begin_clean_of(number, from);
-        let after = Snapshot::of(&*held);
-        drop(held);
         if reply.is_none() {
             self.misplace();
         }
-        Some(HoldOfProcess {
-            process: Change { before, after },
-            reply,
-        })
+        Some(let_go(held, before, reply))
     }
 
     /// Ends the cleaning of a page whose slot was written under no lock. The machine is not sound where it is the copy of no page that is being
@@ -187,16 +173,44 @@ impl<L: Ledger, S: SwapSlot> ProcessLocks<L, S> {
         let mut held = lock.lock(rt);
         let before = Snapshot::of(&*held);
         let reply = held.cleaned_of(job);
-        let after = Snapshot::of(&*held);
-        drop(held);
         if is_lost(&reply) {
             self.misplace();
         }
-        Some(HoldOfProcess {
-            process: Change { before, after },
-            reply,
-        })
+        Some(let_go(held, before, reply))
     }
+
+    /// Lets a process's lock go whose call may have ended it, and tells how far it has come.
+    fn publish<A: Drop>(
+        &self,
+        number: u32,
+        held: MutexGuard<'_, Held<L, S>>,
+        found: Found<L, S>,
+        reply: A,
+    ) -> HoldOfProcess<L, S, A>
+        ensures before { result.process.before.value ≡ found.process.value }
+        ensures after { result.process.after.value ≡ mutex_guard_value held.entry }
+        ensures reply { result.reply ≡ reply }
+    {
+        let news = self.news(number, &*held, found.had_ended);
+        let hold = let_go(held, found.process, reply);
+        self.tell(number, news);
+        hold
+    }
+}
+
+/// Lets a process's lock go.
+fn let_go<L: Ledger, S: SwapSlot, A: Drop>(
+    held: MutexGuard<'_, Held<L, S>>,
+    before: Snapshot<Held<L, S>>,
+    reply: A,
+) -> HoldOfProcess<L, S, A>
+    ensures before { result.process.before.value ≡ before.value }
+    ensures after { result.process.after.value ≡ mutex_guard_value held.entry }
+    ensures reply { result.reply ≡ reply }
+{
+    let process = Change::since(before, &*held);
+    drop(held);
+    HoldOfProcess { process, reply }
 }
 
 /// Whether an instruction ran.

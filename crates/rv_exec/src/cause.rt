@@ -1,4 +1,4 @@
-ghost use Rattle.std.specs.Prelude.{◌≡◌};
+ghost use Rattle.std.specs.Prelude.{◌≡◌, ◌<◌};
 ghost use Rattle.rv_exec.specs.Causes.{cause_number, fetch_cause, load_cause, store_cause};
 
 use page_memory::MemoryFault;
@@ -27,7 +27,8 @@ pub enum Cause {
 impl Cause {
     /// The exception code.
     pub fn number(self) -> u32
-        ensures { result ≡ cause_number self }
+        ensures number { result ≡ cause_number self }
+        ensures small { result < 16 }
     {
         match self {
             Cause::InstructionMisaligned => 0,

@@ -5,17 +5,6 @@ use std::test::Fail;
 use swap_slots::{SlotFault, SwapSlot};
 use test_slots::{BlinkSlot, FlipSlot};
 
-/// A page of which no two neighbours are alike.
-fn page_from(first: u8) -> [u8; 4096] {
-    let mut page = [0; 4096];
-    let mut byte = first;
-    for place in &mut page {
-        *place = byte;
-        byte = byte.wrapping_add(7);
-    }
-    page
-}
-
 /// What a load answers.
 fn loaded<S: SwapSlot>(slot: &mut S) -> Result<[u8; 4096], SlotFault> {
     let mut page = [0; 4096];
@@ -25,7 +14,8 @@ fn loaded<S: SwapSlot>(slot: &mut S) -> Result<[u8; 4096], SlotFault> {
 
 #[test]
 fn blinks_once(rt: HostRuntime) -> Result<(), Fail> {
-    let page = page_from(11);
+    let mut page = [11; 4096];
+    page[4095] = 12;
     for failing in 0..4 {
         let mut slot = BlinkSlot::new(rt.alloc(), failing)?;
         assert_eq!(rt; slot.save(&page).is_err(), failing == 1);
@@ -49,7 +39,8 @@ fn blinks_once(rt: HostRuntime) -> Result<(), Fail> {
 #[test]
 fn lies_once(rt: HostRuntime) -> Result<(), Fail> {
     for first in [12, 13] {
-        let page = page_from(first);
+        let mut page = [11; 4096];
+        page[0] = first;
         let mut lie = page;
         lie[0] = if first == 12 { 13 } else { 12 };
         let mut slot = FlipSlot::new(rt.alloc(), 2)?;

@@ -4,21 +4,21 @@ ghost use Rattle.std.specs.Prelude.{◌≡◌};
 
 use rv_exec::{Cause, Outcome};
 
-/// Where a hart's instructions stopped.
+/// Where a hart's instructions stopped. Its count is as wide as the loop's: one of 32 bits leaves with it in registers.
 #[derive(Clone, Copy)]
-pub struct Halt {
+pub struct Halt<N> {
     /// How many of those that were allowed are left: the loop counts these.
-    pub left: u64,
+    pub left: N,
     /// What the next one came to, where some are left: it is still to be ended.
     pub last: Outcome,
 }
 
 /// Those before the last one are made out of the loop's way, of what an outcome is made of.
-impl Halt {
+impl<N: Copy> Halt<N> {
     /// The next instruction calls.
     #[cold]
     #[inline(never)]
-    pub fn at_call(left: u64) -> Halt
+    pub fn at_call(left: N) -> Self
         ensures { result ≡ record { left = left; last = Outcome.Ecall } }
     {
         Halt {
@@ -30,7 +30,7 @@ impl Halt {
     /// The next word is outside the table.
     #[cold]
     #[inline(never)]
-    pub fn at_illegal(left: u64, word: u32) -> Halt
+    pub fn at_illegal(left: N, word: u32) -> Self
         ensures { result ≡
             record { left = left; last = Outcome.Trap Cause.IllegalInstruction word } }
     {
@@ -43,7 +43,7 @@ impl Halt {
     /// The next instruction traps.
     #[cold]
     #[inline(never)]
-    pub fn at_trap(left: u64, cause: Cause, value: u32) -> Halt
+    pub fn at_trap(left: N, cause: Cause, value: u32) -> Self
         ensures { result ≡ record { left = left; last = Outcome.Trap cause value } }
     {
         Halt {
@@ -55,7 +55,7 @@ impl Halt {
     /// The next instruction uses a page that is absent.
     #[cold]
     #[inline(never)]
-    pub fn at_absent(left: u64, page: u32) -> Halt
+    pub fn at_absent(left: N, page: u32) -> Self
         ensures { result ≡ record { left = left; last = Outcome.Absent page } }
     {
         Halt {
@@ -64,13 +64,13 @@ impl Halt {
         }
     }
 
-    /// All that were allowed are done.
+    /// All that were allowed are done: none is left.
     #[inline(always)]
-    pub fn after_all() -> Halt
-        ensures { result ≡ record { left = 0; last = Outcome.Done } }
+    pub fn after_all(none: N) -> Self
+        ensures { result ≡ record { left = none; last = Outcome.Done } }
     {
         Halt {
-            left: 0,
+            left: none,
             last: Outcome::Done,
         }
     }

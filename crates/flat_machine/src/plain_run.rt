@@ -12,7 +12,12 @@ use rv_exec::{Cause, Outcome, Regs, execute_at};
 /// The one that calls or traps has changed nothing.
 #[inline(never)]
 #[tactic(auto, using(rv_exec::specs::RegistersLaws::own_pc))]
-pub(crate) fn run_plainly(hart: u32, regs: &mut Regs, memory: &mut FlatMemory, most: u64) -> Halt
+pub(crate) fn run_plainly(
+    hart: u32,
+    regs: &mut Regs,
+    memory: &mut FlatMemory,
+    most: u64,
+) -> Halt<u64>
     ensures ran { plain_run hart (most - result.left) regs.old memory.old ≡
         Some (regs.new, memory.new) }
     ensures within { result.left ≤ most }
@@ -26,7 +31,13 @@ pub(crate) fn run_plainly(hart: u32, regs: &mut Regs, memory: &mut FlatMemory, m
 
 /// The same where pc is at hand.
 #[inline(always)]
-fn run_at_hand(hart: u32, pc: &mut u32, regs: &mut Regs, memory: &mut FlatMemory, most: u64) -> Halt
+fn run_at_hand(
+    hart: u32,
+    pc: &mut u32,
+    regs: &mut Regs,
+    memory: &mut FlatMemory,
+    most: u64,
+) -> Halt<u64>
     ensures ran { plain_run hart (most - result.left) (with_pc regs.old pc.old) memory.old ≡
         Some (with_pc regs.new pc.new, memory.new) }
     ensures within { result.left ≤ most }
@@ -43,5 +54,5 @@ fn run_at_hand(hart: u32, pc: &mut u32, regs: &mut Regs, memory: &mut FlatMemory
             Outcome::Absent(_) => unreachable!(),
         }
     }
-    Halt::after_all()
+    Halt::after_all(left)
 }

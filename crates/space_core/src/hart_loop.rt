@@ -51,8 +51,8 @@ fn run_each<L: Ledger, S: SwapSlot>(
     regs: &mut Regs,
     memory: &mut PagedMemory<L, S>,
     hart: u32,
-    most: u64,
-) -> Halt
+    most: u32,
+) -> Halt<u32>
     requires started { hart < harts_in memory.old }
     ensures within { result.left ≤ most }
     ensures ran { RunsUntil S.content S.honest hart most (most - result.left) result.last regs.old
@@ -72,8 +72,8 @@ fn run_at_hand<L: Ledger, S: SwapSlot>(
     regs: &mut Regs,
     memory: &mut PagedMemory<L, S>,
     hart: u32,
-    most: u64,
-) -> Halt
+    most: u32,
+) -> Halt<u32>
     requires started { hart < harts_in memory.old }
     ensures within { result.left ≤ most }
     ensures ran { RunsUntil S.content S.honest hart most (most - result.left) result.last
@@ -90,7 +90,7 @@ fn run_at_hand<L: Ledger, S: SwapSlot>(
             Outcome::Absent(page) => return Halt::at_absent(left, page),
         }
     }
-    Halt::after_all()
+    Halt::after_all(left)
 }
 
 impl Running {
@@ -111,9 +111,9 @@ impl Running {
         ensures harts { harts_in memory.new ≡ harts_in memory.old }
     {
         let regs = &mut self.harts[hart as usize];
-        let halt = run_each(regs, memory, hart, u64::from(most));
+        let halt = run_each(regs, memory, hart, most);
         Course {
-            done: most - halt.left as u32,
+            done: most - halt.left,
             last: halt.last,
         }
     }

@@ -1,6 +1,5 @@
-use Rattle.std.proofs.Common.{◌≡◌, ◌-◌, length, arith, ap, subst}
+use Rattle.std.proofs.Common.{length, arith, ap}
 use Rattle.paged_memory.specs.Paged.{memory_of}
-use Rattle.space_core.specs.HartLoop.{RunsUntil}
 use Rattle.space_core.specs.RunningValue.{RunningValue}
 use Rattle.space_core.proofs.StepMoves.{is_started, whole_set}
 use Rattle.space_core.proofs.StepsOn.{hart_runs}
@@ -28,9 +27,5 @@ invariant_of-self g c = record {
 
 pub returns-clause-ran : goal.returns-clause-ran
 returns-clause-ran g c =
-    let run = c.run_each-halt in
-    let most : c.from.result ≡ c.args.most = c.from.ensures in
-    let ran =
-    subst (λ n. RunsUntil g.S.SwapSlot.content g.S.SwapSlot.honest c.args.hart n (n - run.result.left) run.result.last c.index_mut-regs.result.now c.args.memory.now run.new.regs run.new.memory) most run.ensures.ran in
-    hart_runs c.args.hart _ (record { harts = c.self.inside.harts.items; environment = c.self.inside.env; ending = c.self.inside.end }) c.args.self.now c.index_mut-regs.result.now run.new.regs
-    c.self.view_is c.index_mut-regs.ensures.value ran c.self.invariant.whole
+    hart_runs c.args.hart _ (record { harts = c.self.inside.harts.items; environment = c.self.inside.env; ending = c.self.inside.end }) c.args.self.now c.index_mut-regs.result.now c.run_each-halt.new.regs
+    c.self.view_is c.index_mut-regs.ensures.value c.run_each-halt.ensures.ran c.self.invariant.whole

@@ -8,7 +8,7 @@ use crate::calls::{is_yield, page_of_call};
 use crate::step_pages::{PageUse, loaded, stored};
 use page_memory::FlatMemory;
 use rv_exec::Regs;
-use rv_isa::{Insn, LoadKind, Reg, StoreKind};
+use rv_isa::{Insn, LoadKind, StoreKind};
 
 /// The page that an instruction, or the call that it makes, loads or stores.
 pub(crate) fn page_of_insn(regs: &Regs, memory: &FlatMemory, insn: Insn) -> Option<PageUse>

@@ -14,6 +14,14 @@ use test_guests::{STORES_A_BYTE, WRITES_A_SUM};
 /// How often a flag is looked at, with a millisecond's sleep each time: longer than any thread is kept from running on a busy machine.
 const LOOKS: u32 = 30_000;
 
+/// There is a frame for each page, and a slice ends a program that stores a byte.
+const SETTING: Setting = Setting {
+    frames: 64,
+    workers: 2,
+    slice: 10,
+    ahead: false,
+};
+
 /// Whether a flag was seen to be set.
 fn is_seen(rt: &HostRuntime, flag: &AtomicU64) -> bool {
     for _ in 0..LOOKS {
@@ -177,17 +185,11 @@ fn two_processes_run_at_the_same_time(rt: HostRuntime) -> Result<(), Fail> {
         one: AtomicU64::new(0),
         missed: AtomicU64::new(0),
     };
-    let setting = Setting {
-        frames: 64,
-        workers: 2,
-        slice: 1000,
-        ahead: false,
-    };
     let slots = sound_slots(alloc, 4)?;
     let report = played(
         &rt,
         alloc,
-        setting,
+        SETTING,
         slots,
         &[STORES_A_BYTE, STORES_A_BYTE],
         &gate,
@@ -207,17 +209,11 @@ fn a_process_runs_while_another_loads(rt: HostRuntime) -> Result<(), Fail> {
         ran: AtomicU64::new(0),
         missed: AtomicU64::new(0),
     };
-    let setting = Setting {
-        frames: 64,
-        workers: 2,
-        slice: 10,
-        ahead: false,
-    };
     let slots = sound_slots(alloc, 4)?;
     let report = played(
         &rt,
         alloc,
-        setting,
+        SETTING,
         slots,
         &[WRITES_A_SUM, WRITES_A_SUM],
         &gate,

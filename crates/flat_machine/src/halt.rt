@@ -4,7 +4,7 @@ ghost use Rattle.std.specs.Prelude.{◌≡◌};
 
 use rv_exec::{Cause, Outcome};
 
-/// Where a hart's instructions stopped. Its count is as wide as the loop's: one of 32 bits leaves with it in registers.
+/// Where a hart's instructions stopped. Its count is as wide as its loop needs: a wider one costs the loop machine instructions.
 #[derive(Clone, Copy)]
 pub struct Halt<N> {
     /// How many of those that were allowed are left: the loop counts these.

@@ -194,19 +194,6 @@ module _ {S : Type 0} {held : S → List ℕ} {honest : Type 0} {pages : List (�
             fills = fills_walked apart;
           }
 
--- a hart whose access changes nothing
-pub keeps_nothing : {S : Type 0} (pages : List (ℕ × PageValue S)) (hart number : ℕ) (tables : List (List ℕ)) (caches : List (List Translation)) → KeepsTranslations pages hart number tables tables caches caches
-keeps_nothing pages hart number tables caches = record {
-  harts = refl;
-  others = λ h apart. refl;
-  used = λ q small is. is;
-  changed = λ q small is. is;
-  held = λ q is. inr is;
-  doomed = λ q t found is. found;
-  tabled = λ q small. refl;
-  fills = inl (refl, refl);
-}
-
 -- what a walk comes to
 pub record Walked {S : Type 0} (held : S → List ℕ) (honest : Type 0) (pages : List (ℕ × PageValue S)) (tables tables' : List (List ℕ)) (caches caches' : List (List Translation)) (hart : ℕ) (access : Access) (number place : ℕ) : Type 0 where
   pub holds : Holds held honest pages tables' caches'

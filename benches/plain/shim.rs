@@ -86,9 +86,238 @@ pub mod collections {
     }
 }
 
+pub mod snapshot {
+    use std::marker::PhantomData;
+
+    pub struct Snapshot<T>(PhantomData<fn() -> T>);
+
+    impl<T> Snapshot<T> {
+        #[inline(always)]
+        pub fn of(_: &T) -> Self {
+            Snapshot(PhantomData)
+        }
+    }
+}
+
+pub mod time {
+    pub use std::time::Duration;
+}
+
+pub mod io {
+    pub use std::io::*;
+}
+
+pub mod thread {
+    pub trait Threads {}
+
+    pub trait Promise<T> {}
+
+    pub struct ScopeEnv;
+
+    pub fn scope_env() -> ScopeEnv {
+        ScopeEnv
+    }
+
+    pub struct Scope<'s, 'e: 's>(&'s std::thread::Scope<'s, 'e>);
+
+    impl<'s, 'e> Scope<'s, 'e> {
+        pub fn spawn_with<P, T: Send + 's, F: FnOnce() -> T + Send + 's>(
+            &self,
+            _: P,
+            f: F,
+        ) -> Result<(), ()> {
+            self.0.spawn(f);
+            Ok(())
+        }
+    }
+
+    pub fn scope<'e, R, T, F: for<'s> FnOnce(Scope<'s, 'e>) -> T>(_: ScopeEnv, _: &R, f: F) -> T {
+        std::thread::scope(|s| f(Scope(s)))
+    }
+}
+
 pub mod sync {
     use crate::alloc::{AllocError, AllocFailed, Global};
     use std::ops::Deref;
+    pub trait Wait {
+        #[inline(always)]
+        fn forever(&self) -> std::iter::Repeat<()> {
+            std::iter::repeat(())
+        }
+    }
+
+    pub struct Host;
+
+    impl Wait for Host {}
+
+    impl crate::thread::Threads for Host {}
+
+    unsafe extern "C" {
+        fn syscall(number: i64, ...) -> i64;
+    }
+
+    const FUTEX: i64 = 202;
+
+    /// Sleeps while the low half of a word is what was seen, or until it is rung.
+    fn sleep(word: &std::sync::atomic::AtomicU64, seen: u32, time: Option<std::time::Duration>) {
+        let time = time.map(|it| [it.as_secs() as i64, i64::from(it.subsec_nanos())]);
+        let at = time.as_ref().map_or(std::ptr::null(), |it| it.as_ptr());
+        unsafe {
+            syscall(FUTEX, word.as_ptr(), 128i64, i64::from(seen), at);
+        }
+    }
+
+    fn wake(word: &std::sync::atomic::AtomicU64, count: i64) {
+        unsafe {
+            syscall(FUTEX, word.as_ptr(), 129i64, count);
+        }
+    }
+
+    /// A lock whose word is 1 where any thread may take it, 4 where only one that has slept may, 0 while it is held, 2 where a thread may
+    /// sleep besides, and 3 where one asks for 4: so that a thread which takes it again and again starves nobody.
+    pub struct Mutex<T> {
+        free: std::sync::atomic::AtomicU64,
+        value: std::cell::UnsafeCell<T>,
+    }
+
+    unsafe impl<T: Send> Send for Mutex<T> {}
+
+    unsafe impl<T: Send> Sync for Mutex<T> {}
+
+    pub struct MutexGuard<'a, T>(&'a Mutex<T>);
+
+    impl<T> Mutex<T> {
+        pub fn new(value: T) -> Self {
+            Mutex {
+                free: std::sync::atomic::AtomicU64::new(1),
+                value: std::cell::UnsafeCell::new(value),
+            }
+        }
+
+        fn change(&self, current: u64, new: u64) -> Result<u64, u64> {
+            use std::sync::atomic::Ordering::SeqCst;
+            self.free.compare_exchange(current, new, SeqCst, SeqCst)
+        }
+
+        fn take(&self, current: u64, new: u64) -> Option<MutexGuard<'_, T>> {
+            self.change(current, new).ok().map(|_| MutexGuard(self))
+        }
+
+        fn seen(&self) -> u64 {
+            self.free.load(std::sync::atomic::Ordering::SeqCst)
+        }
+
+        pub fn lock<R>(&self, _: &R) -> MutexGuard<'_, T> {
+            let mut slept = 0;
+            loop {
+                if let Some(guard) = self.take(1, if slept == 0 { 0 } else { 2 }) {
+                    return guard;
+                }
+                let seen = self.seen();
+                if seen == 4 && slept != 0 {
+                    if let Some(guard) = self.take(4, 2) {
+                        return guard;
+                    }
+                    continue;
+                }
+                let wanted = if slept < 2 { 2 } else { 3 };
+                if seen == 1 || seen < wanted && self.change(seen, wanted).is_err() {
+                    continue;
+                }
+                sleep(&self.free, seen.max(wanted) as u32, None);
+                slept += 1;
+            }
+        }
+
+        pub fn try_lock(&self) -> Option<MutexGuard<'_, T>> {
+            self.take(1, 0)
+        }
+
+        pub fn into_inner(self) -> T {
+            self.value.into_inner()
+        }
+    }
+
+    impl<T> Drop for MutexGuard<'_, T> {
+        fn drop(&mut self) {
+            let lock = self.0;
+            if lock.change(0, 1).is_err() {
+                if lock.change(2, 1).is_err() {
+                    lock.free.store(4, std::sync::atomic::Ordering::SeqCst);
+                }
+                wake(&lock.free, 1);
+            }
+        }
+    }
+
+    impl<T> Deref for MutexGuard<'_, T> {
+        type Target = T;
+
+        fn deref(&self) -> &T {
+            unsafe { &*self.0.value.get() }
+        }
+    }
+
+    impl<T> std::ops::DerefMut for MutexGuard<'_, T> {
+        fn deref_mut(&mut self) -> &mut T {
+            unsafe { &mut *self.0.value.get() }
+        }
+    }
+
+    pub mod atomic {
+        pub use std::sync::atomic::Ordering;
+        use std::sync::atomic::AtomicU64 as Word;
+
+        pub struct AtomicU64(pub Word);
+
+        impl AtomicU64 {
+            pub fn new(value: u64) -> Self {
+                AtomicU64(Word::new(value))
+            }
+
+            pub fn load(&self, order: Ordering) -> u64 {
+                self.0.load(order)
+            }
+
+            pub fn store(&self, value: u64, order: Ordering) {
+                self.0.store(value, order)
+            }
+
+            pub fn fetch_add(&self, value: u64, order: Ordering) -> u64 {
+                self.0.fetch_add(value, order)
+            }
+
+            pub fn fetch_sub(&self, value: u64, order: Ordering) -> u64 {
+                self.0.fetch_sub(value, order)
+            }
+
+            pub fn swap(&self, value: u64, order: Ordering) -> u64 {
+                self.0.swap(value, order)
+            }
+
+            pub fn compare_exchange(
+                &self,
+                current: u64,
+                new: u64,
+                order: Ordering,
+                missed: Ordering,
+            ) -> Result<u64, u64> {
+                self.0.compare_exchange(current, new, order, missed)
+            }
+
+            pub fn into_inner(self) -> u64 {
+                self.0.into_inner()
+            }
+
+            pub fn wake_all(&self) {
+                super::wake(&self.0, i64::from(i32::MAX));
+            }
+
+            pub fn park_timeout<R>(&self, _: &R, seen: u32, time: std::time::Duration) {
+                super::sleep(&self.0, seen, Some(time));
+            }
+        }
+    }
 
     pub struct Arc<T>(std::sync::Arc<T>);
 
@@ -149,7 +378,7 @@ pub mod sync {
     }
 }
 
-mod vec {
+pub mod vec {
     use crate::alloc::{AllocError, Global};
     use std::ops::{Deref, DerefMut, Index, IndexMut};
 
@@ -519,7 +748,11 @@ macro_rules! vec_in {
     ($alloc:expr; $value:expr; $count:expr) => {
         $crate::vec_of($value, $count)
     };
+    ($alloc:expr; $($value:expr),+ $(,)?) => {
+        Ok::<_, $crate::alloc::AllocError>($crate::vec::Vec(vec![$($value),+]))
+    };
 }
+
 
 pub fn vec_of<T: Clone>(value: T, count: usize) -> Result<prelude::Vec<T>, alloc::AllocError> {
     let _ = alloc::Global;

@@ -5,6 +5,8 @@ import struct
 import subprocess
 import tempfile
 
+from first_build import build_first
+
 TOP = os.path.dirname(os.path.dirname(os.path.dirname(os.path.realpath(__file__))))
 ABI = ("zero ra sp gp tp t0 t1 t2 s0 s1 a0 a1 a2 a3 a4 a5 a6 a7 s2 s3 s4 s5 s6 s7 s8 s9 s10 s11 t3 t4 t5 t6").split()
 ECALL = 0x73
@@ -18,6 +20,7 @@ class Image:
         self.name, self.code, self.symbols, self.lines = name, [], {}, {}
         with open(name, "rb") as it:
             content = it.read()
+        build_first()    # what is called from here on keeps its standard error
         if content[:4] == b"\x7fELF":
             self.read_elf(content)
         elif content.startswith(b".words\n"):

@@ -2,13 +2,14 @@
 // It shows what stands in the run: what the machine's readers told after each event. What it works out by itself is the walk of an address
 // over the words of the page tables, and which accesses of the instructions that ran were served by a cached translation.
 const run = JSON.parse(document.getElementById("run").textContent);
-const scenes = unfold(run.scenes);
-const most = scenes.length - 1;
-const isWhole = scenes.every(scene => scene.passed === 0);
-const hasHarts = Boolean(scenes[0].processes);    // whether the film tells of harts
-const translates = hasHarts && scenes[0].processes.some(process => process.harts.some(hart => hart.cached));    // and what they have cached
-// The list takes the room that its longest state needs at each event, so that what stands below it stays where it is.
-const longest = Math.max(...scenes.map(scene => scene.entries.length));
+const pieceLength = 500;    // one scene in so many is whole; a piece is read when one of its scenes is wanted
+const most = run.count - 1;
+const stops = run.stops;    // page faults, failures and page-ins, by their numbers
+const pieces = new Map();    // those that were read last
+const first = sceneAt(0);
+const hasHarts = Boolean(first.processes);    // whether the film tells of harts
+const translates = hasHarts && first.processes.some(process => process.harts.some(hart => hart.cached));    // and what they have cached
+let longest = 0;    // the list keeps the room that its longest state so far needed
 const by = id => document.getElementById(id);
 const signs = { fresh: "\u25cb", resident: "\u25cf", leaving: "\u25d0", saving: "\u25d2", away: "\u25c7", purged: "\u00d7" };
 const letters = { hot: "H", test: "T", cold: "C", shadow: "S" };
@@ -20,22 +21,37 @@ const ran = new Set(["ran", "yield", "hart done", "ended"]);
 const asked = { hits: 0, misses: 0 };
 let at = 0;
 
-// Each scene whole: what a scene leaves out is as in the scene before it.
+// A scene whole, by its number.
+function sceneAt(number) {
+  return pieceOf(Math.floor(number / pieceLength)).scenes[number % pieceLength];
+}
+
+function pieceOf(number) {
+  let piece = pieces.get(number);
+  if (piece) return piece;
+  piece = { scenes: unfold(JSON.parse(document.getElementById("piece-" + number).textContent)), uses: null };
+  if (pieces.size >= 12) pieces.delete(pieces.keys().next().value);
+  pieces.set(number, piece);
+  return piece;
+}
+
+// Each scene of a piece: what a scene leaves out is as in the scene before it. The first is whole, and so is that of a machine to which nothing happens.
 function unfold(folded) {
   const whole = [];
   for (const scene of folded) {
     const before = whole[whole.length - 1];
-    if (!before) {
+    if (!before || !scene.event) {
       whole.push(scene);
       continue;
     }
-    const pages = new Map(before.pages.map(row => [row[0], row]));
-    for (const row of scene.pages || []) pages.set(row[0], row);
-    const made = { ...before, ...scene, pages: [...pages.values()] };
-    if (before.processes) {
-      const processes = (scene.processes || []).map((process, k) => process && unfoldProcess(process, before.processes[k]));
-      made.processes = before.processes.map((process, k) => processes[k] || process);
+    let pages = before.pages;
+    if (scene.pages) {
+      const rows = new Map(pages.map(row => [row[0], row]));
+      for (const row of scene.pages) rows.set(row[0], row);
+      pages = [...rows.values()];
     }
+    const made = { ...before, ...scene, pages };
+    if (scene.processes) made.processes = before.processes.map((process, k) => scene.processes[k] ? unfoldProcess(scene.processes[k], process) : process);
     whole.push(made);
   }
   return whole;
@@ -91,12 +107,26 @@ function holders(scene, key) {
 // What the table says of a page: where it is, its frame, its two bits, and who has cached it.
 function cells(scene, row) {
   const [key, state, frame, accessed, dirty, changed] = row;
-  if (!state) return ["not mapped", none, none, none, ...(translates ? [none] : [])];
+  if (!state) return ["not mapped", none, none, none, ...(translates ? [none, none] : [])];
   const known = accessed !== null;
   const leaves = state === "leaving" || state === "saving";
   return [stateOf(row), frame === null ? none : String(frame), known ? yes(accessed) : none,
     known ? yes(dirty) + (changed && !dirty ? ", but changed" : "") : !leaves ? none : changed ? "to be saved" : "unchanged",
-    ...(translates ? [holders(scene, key).join(", ") || none] : [])];
+    ...(translates ? [holders(scene, key).join(", ") || none, leafBits(scene, key)] : [])];
+}
+
+// The bits of the entry that maps a page.
+function leafBits(scene, key) {
+  const [process, vpn] = key.split("/").map(Number);
+  const tables = scene.processes[process] ? scene.processes[process].tables : [];
+  const pointer = wordAt(tables, 0, vpn >>> 10);
+  const word = pointer & 1 ? wordAt(tables, ppn(pointer) - root, vpn & 1023) : 0;
+  return word & 1 ? bits(word) : "V clear";
+}
+
+// The mark of a process: its number, which has a colour.
+function ofProcess(number) {
+  return { "data-process": number, class: "p" + number % 8 };
 }
 
 // Where a page is, and how far its cleaning is, if one has begun.
@@ -117,8 +147,10 @@ function showFrames(scene) {
     }
     const [key, state, , accessed, dirty, changed] = row;
     const bits = accessed === null ? (changed ? " (D)" : "") : " " + (accessed ? "A" : "") + (dirty ? "D" : "");
-    items.push(make("li", { class: state }, label, make("span", { class: "page code" }, pageName(key)), bits, make("br"), stateOf(row)));
+    const of = ofProcess(key.split("/")[0]);
+    items.push(make("li", { ...of, class: state + " " + of.class }, label, make("span", { class: "page code" }, pageName(key)), bits, make("br"), stateOf(row)));
   }
+  by("frames").className = run.frames > 16 ? "many" : "";
   by("frames").replaceChildren(...items);
 }
 
@@ -126,7 +158,8 @@ function showPages(scene, before) {
   const old = new Map((before ? before.pages : []).map(row => [row[0], cells(before, row)]));
   by("pages").replaceChildren(...scene.pages.map(page => {
     const was = old.get(page[0]);
-    const row = make("tr", {}, make("th", { scope: "row", class: "code" }, pageName(page[0]), " ",
+    const of = ofProcess(page[0].split("/")[0]);
+    const row = make("tr", {}, make("th", { ...of, scope: "row", class: "code " + of.class }, pageName(page[0]), " ",
       make("span", { class: "soft small" }, page[0].split("/")[1])));
     cells(scene, page).forEach((cell, k) => row.append(make("td", was && was[k] === cell ? {} : { class: "changed" }, cell)));
     return row;
@@ -189,16 +222,20 @@ function showList(scene) {
   by("share").textContent = "share " + scene.share + " of " + run.frames + ", asked " + scene.asked
     + ", cold hand " + nameOf(scene.cold) + ", test hand " + nameOf(scene.test);
   const place = key => entries.findIndex(entry => entry[0] === key);
+  longest = Math.max(longest, entries.length);
   const room = Array.from({ length: longest - entries.length }, () => make("li", { class: "room", "aria-hidden": "true" }, "\u00a0"));
   by("entries").replaceChildren(...entries.map(([key, kind]) => {
     const both = scene.cold === key && scene.test === key;
     const hands = both ? "both hands" : scene.cold === key ? "cold hand" : scene.test === key ? "test hand" : "";
     return make("li", {}, make("span", { class: "code" }, pageName(key) + " " + kind), hands ? " \u2190 " + hands : "");
   }), ...room);
+  ring.style.display = longest > 64 ? "none" : "";
   if (longest > 64) return ring.replaceChildren();
   const isMany = entries.length > 14;
+  const scale = (ring.clientWidth || 464) / 520;
+  ring.style.setProperty("--ring", Math.round(10 * 13.5 / scale) / 10 + "px");    // letters of 13 pixels at any width
   const size = entries.length <= 20 ? 17 : entries.length <= 40 ? 9 : 7;
-  ring.setAttribute("class", isMany ? "many" : "");
+  ring.setAttribute("class", (isMany ? "many" : "") + (isMany || scale < 0.8 && entries.length > 8 ? " bare" : ""));
   ring.replaceChildren(tip(), svgMake("circle", { class: "circle", cx: 210, cy: 210, r: 150 }),
     ...hand(place(scene.cold), entries.length, "cold", ""), ...hand(place(scene.test), entries.length, "test", "testing"),
     ...(entries.length ? [svgMake("text", { class: "hand", x: 210, y: isMany ? 88 : 12 }, isMany ? "hot hand \u25b4" : "hot hand \u25be")] : []),
@@ -235,7 +272,7 @@ function showHarts(scene, before) {
   if (!hasHarts) return;
   const shown = [];
   scene.processes.forEach((process, p) => {
-    if (process.end) shown.push(make("p", {}, "process " + p + ": " + process.end));
+    if (process.end) return shown.push(make("h3", ofProcess(p), "process " + p), make("p", {}, process.end));
     process.harts.forEach((hart, h) => {
       const old = before && before.processes[p] && before.processes[p].harts[h];
       const changed = old ? hart.x.map((value, k) => [k + 1, value, old.x[k]]).filter(([, value, was]) => value !== was) : [];
@@ -243,8 +280,8 @@ function showHarts(scene, before) {
       const all = make("details", { id: "registers-" + p + "-" + h }, make("summary", {}, "all registers"),
         make("ul", { class: "registers" }, ...hart.x.map((value, k) => register(k + 1, value, old && old.x[k]))));
       if (open && open.open) all.open = true;
-      shown.push(make("h3", {}, "process " + p + ", hart " + h + (hart.live === false ? ", done" : "")),
-        make("p", {}, "next: ", instruction(p, hart)),
+      shown.push(make("h3", ofProcess(p), "process " + p + ", hart " + h + (hart.live === false ? ", done" : "")),
+        make("p", {}, ...(hart.live === false ? ["has ended"] : ["next: ", instruction(p, hart)])),
         make("p", {}, changed.length ? "changed: " : "no register changed", ...changed.flatMap(([number, value, was], k) => [
           k ? ", " : "", make("span", { class: "code" }, "x" + number + " " + names[number] + " " + hex(was, 8) + " \u2192 " + hex(value, 8))])), all);
     });
@@ -255,10 +292,8 @@ function showHarts(scene, before) {
 // What an event did, in the words of the program that it ran.
 function showAbout(scene, before) {
   const parts = [];
-  const passed = scene.passed;
-  if (passed) parts.push(passed + (passed === 1 ? " event" : " events") + " before it " + (passed === 1 ? "has" : "have") + " no picture. ");
   const step = /^step (\d+) (\d+)$/.exec(scene.event || "");
-  if (hasHarts && step && !passed && before) {
+  if (hasHarts && step && before) {
     const process = before.processes[step[1]];
     const hart = process && process.harts[step[2]];
     if (hart) parts.push((ran.has(scene.reply) ? "It ran " : "It is at "), instruction(Number(step[1]), hart));
@@ -268,9 +303,41 @@ function showAbout(scene, before) {
   const absent = /^absent (\d+)$/.exec(scene.reply || "");
   if (absent) parts.push((hasHarts ? ", and needs page " : "It needs page ") + hex(Number(absent[1])) + ".");
   by("about-event").replaceChildren(...parts);
+  showWhat(scene, before);
   const comments = run.comments || [];
   by("comment").textContent = comments.slice(0, at + 1).filter(Boolean).pop() || comments.find(Boolean) || "";
   by("comment-section").hidden = !comments.some(Boolean);
+}
+
+const outcomes = {
+  "no slot": "No slot is free: the changed page can't be saved. It is resident again, and the list is asked for another.",
+  device: "The device failed: the page was not written or read.",
+  damaged: "The page came back from its slot other than it was saved: its process is killed.",
+  "not yet": "Not yet: a TLB has a translation of the page still.",
+};
+
+// What a reader should not miss in an event: a page fault, and what failed.
+function showWhat(scene, before) {
+  const absent = /^absent (\d+)$/.exec(scene.reply || "");
+  const access = absent && accessOf(scene, before);
+  const row = absent && scene.pages.find(([key]) => key === scene.event.split(" ")[1] + "/" + absent[1]);
+  const what = !absent ? outcomes[scene.reply] || "" : "Page fault: "
+    + (access && access.address >>> 12 === Number(absent[1]) ? access.access + " at " + hex(access.address, 8) + ", on page " : "page ") + hex(Number(absent[1]))
+    + ", which is in no frame" + (row && row[1] ? " (" + row[1] + ")" : "") + ". The instruction waits, and is tried again.";
+  by("what").textContent = what;
+  by("what").className = absent || scene.reply in outcomes && scene.reply !== "not yet" ? "fault" : "";
+}
+
+// The access of a step: of an instruction that ran its load or store if it has one, else its fetch; of a page fault the one that needs the page.
+function accessOf(scene, before) {
+  const step = /^step (\d+) (\d+)$/.exec(scene.event || "");
+  const process = step && before && before.processes && before.processes[step[1]];
+  const hart = process && process.harts[step[2]];
+  if (!hart) return null;
+  const absent = /^absent (\d+)$/.exec(scene.reply || "");
+  const data = dataAccess(hart);
+  const isData = data && (!absent || data[0] >>> 12 === Number(absent[1]) && hart.pc >>> 12 !== Number(absent[1]));
+  return { process: step[1], hart: step[2], address: isData ? data[0] : hart.pc, access: isData ? data[1] : "fetch" };
 }
 
 // Translation: the manual's steps over the words of the tables.
@@ -348,8 +415,26 @@ function chosenProcess() {
   return Number(by("process").value) || 0;
 }
 
+// The machine whose translation is shown: that before the event whose access is followed, or that of now.
+function translatedScene() {
+  return by("follow").checked && at && accessOf(sceneAt(at), sceneAt(at - 1)) ? sceneAt(at - 1) : sceneAt(at);
+}
+
+// Goes along with the access of an event.
+function follow() {
+  const access = by("follow").checked && at ? accessOf(sceneAt(at), sceneAt(at - 1)) : null;
+  if (!access) return;
+  by("process").value = access.process;
+  fill(by("hart"), Math.max(1, translatedScene().processes[access.process].harts.length));
+  by("hart").value = access.hart;
+  by("address").value = hex(access.address, 8);
+  by("access").value = access.access;
+}
+
 function showTranslated(isAsked) {
-  const process = scenes[at].processes[chosenProcess()];
+  const scene = translatedScene();
+  by("when").textContent = scene === sceneAt(at) ? "As the machine is after this event." : "The access of this event, by the machine before it.";
+  const process = scene.processes[chosenProcess()];
   const hart = process && process.harts[Number(by("hart").value) || 0];
   const address = typedAddress();
   if (!hart || Number.isNaN(address)) {
@@ -366,8 +451,8 @@ function showTranslated(isAsked) {
   const cached = look(hart, address, access);
   const walked = walk(process.tables, address, access);
   const physical = frame => hex(frame * 4096 + (address & 4095), 8);
-  const first = cached.hit ? "Its cache has the page's translation, to frame " + cached.entry[1] + (cached.entry[4] ? ", doomed" : "") + ": a hit, and no walk."
-    : "Its cache " + cached.why + ": a miss, and a walk.";
+  const first = cached.hit ? "Its TLB has the page's translation, to frame " + cached.entry[1] + (cached.entry[4] ? ", doomed" : "") + ": a hit, and no walk."
+    : "Its TLB " + cached.why + ": a miss, and a walk.";
   by("steps").replaceChildren(make("li", {}, first), ...walked.steps.map(step => make("li", {}, (cached.hit ? "(A walk would say so:) " : "") + step)));
   by("answer").textContent = cached.hit ? "Physical address " + physical(cached.entry[1]) + ", by the cached translation"
       + (walked.fault ? "; the tables no longer lead there" : "") + "."
@@ -380,7 +465,7 @@ function showTranslated(isAsked) {
 // A page fault: of a page that is in no frame, of one that the process does not have, or of a right that it lacks.
 function answerOfFault(address, fault) {
   const key = chosenProcess() + "/" + (address >>> 12);
-  const row = scenes[at].pages.find(([name]) => name === key);
+  const row = translatedScene().pages.find(([name]) => name === key);
   const where = row && row[1] ? "The page is " + row[1] + (row[1] === "resident" ? ", and this access is not allowed: a trap." : ": it has to come in first.")
     : "No event so far has named this page: it was not brought in yet, or the process has none here and the access would trap.";
   return (fault === "page fault" ? "Page fault. " : "Access fault. ") + where;
@@ -388,11 +473,11 @@ function answerOfFault(address, fault) {
 
 function showTree() {
   const number = chosenProcess();
-  const process = scenes[at].processes[number];
+  const process = sceneAt(at).processes[number];
   by("tree-process").textContent = number;
   if (!process) return by("tree").replaceChildren();
   const address = typedAddress();
-  const states = new Map(scenes[at].pages.map(([key, state]) => [key, state]));
+  const states = new Map(sceneAt(at).pages.map(([key, state]) => [key, state]));
   const line = (word, index, rest, isHere) => make("li", isHere ? { class: "here" } : {}, "[" + index + "] " + hex(word, 8) + " " + bits(word) + " " + rest);
   const items = process.tables.length ? process.tables[0].map(([index, word]) => {
     const table = ppn(word) - root;
@@ -409,6 +494,7 @@ function showTree() {
 
 function showCaches(scene) {
   const shown = [];
+  const counted = countedNow();
   scene.processes.forEach((process, p) => process.harts.forEach((hart, h) => {
     const rows = hart.cached.map(([page, frame, rights, dirty, doomed]) => make("tr", doomed ? { class: "doomed" } : {},
       make("th", { scope: "row", class: "code" }, hex(page), " ", make("span", { class: "soft small" }, String(page))), make("td", {}, String(frame)),
@@ -416,29 +502,81 @@ function showCaches(scene) {
     const head = ["page", "frame", "rights", "marked", "dropped at a notice"].map(name => make("th", { scope: "col" }, name));
     const table = make("table", { id: "cache-" + p + "-" + h }, make("thead", {}, make("tr", {}, ...head)), make("tbody", {}, ...rows));
     const name = "process " + p + ", hart " + h + ": " + hart.cached.length + " of 16 translations";
-    shown.push(make("div", {}, make("p", {}, name), hart.cached.length ? table : "", make("p", { class: "soft" }, uses(p, h))));
+    shown.push(make("div", ofProcess(p), make("p", {}, name), hart.cached.length ? table : "", make("p", { class: "soft" }, uses(p, h, counted))));
   }));
   by("caches").replaceChildren(...shown);
 }
 
-// How many accesses of the instructions that ran so far were served by a cached translation, for each hart after each event: counted where
-// each event has its picture. An instruction is an access to its own page, and one to that which it loads from or stores to.
-const counted = isWhole && translates ? countUses() : null;
-
-function countUses() {
-  const sums = new Map();
-  return scenes.map((scene, k) => {
+// Which pages the instruction of each event of a piece used, and whether its translation was cached: of events that ran no instruction nothing.
+// An instruction is an access to its own page, and one to that which it loads from or stores to.
+function usesOfPiece(number) {
+  const piece = pieceOf(number);
+  if (piece.uses) return piece.uses;
+  piece.uses = piece.scenes.map((scene, k) => {
+    const place = number * pieceLength + k;
     const step = /^step (\d+) (\d+)$/.exec(scene.event || "");
-    if (step && ran.has(scene.reply)) {
-      const name = step[1] + "/" + step[2];
-      const [accesses, walks] = sums.get(name) || [0, 0];
-      const hart = scenes[k - 1].processes[step[1]].harts[step[2]];
-      const trapped = /^trap/.test(scene.processes[step[1]].end || "");
-      const more = usesOf(hart, trapped);
-      sums.set(name, [accesses + more.length, walks + more.filter(hit => !hit).length]);
-    }
-    return new Map(sums);
+    if (!step || !ran.has(scene.reply) || !place) return null;
+    const hart = (k ? piece.scenes[k - 1] : sceneAt(place - 1)).processes[step[1]].harts[step[2]];
+    const trapped = /^trap/.test(scene.processes[step[1]].end || "");
+    const data = trapped ? null : dataAccess(hart);
+    return { process: Number(step[1]), hart: step[1] + "/" + step[2], hits: usesOf(hart, trapped), pages: [hart.pc >>> 12, ...(data ? [data[0] >>> 12] : [])] };
   });
+  return piece.uses;
+}
+
+// How many accesses there were and how many of them walked, for each hart: up to the start of each piece, as far as that was counted.
+const countedTo = [new Map()];
+let counting = null;
+
+function addUses(sums, uses) {
+  for (const use of uses) if (use) {
+    const [accesses, walks] = sums.get(use.hart) || [0, 0];
+    sums.set(use.hart, [accesses + use.hits.length, walks + use.hits.filter(hit => !hit).length]);
+  }
+  return sums;
+}
+
+function countPiece() {
+  const number = countedTo.length - 1;
+  countedTo.push(addUses(new Map(countedTo[number]), usesOfPiece(number)));
+}
+
+// The counts up to the event that is shown; a few pieces are counted at once, and many one after another while the page is looked at.
+function countedNow() {
+  const piece = Math.floor(at / pieceLength);
+  for (let k = 0; k < 3 && countedTo.length <= piece; k++) countPiece();
+  if (countedTo.length <= piece) {
+    clearTimeout(counting);
+    counting = setTimeout(() => showCaches(sceneAt(at)), 0);
+    return null;
+  }
+  return addUses(new Map(countedTo[piece]), usesOfPiece(piece).slice(0, at % pieceLength + 1));
+}
+
+// The pages that each process used in its last instructions, and how many instructions these are.
+function workingSets(window, count) {
+  const found = Array.from({ length: count }, () => ({ pages: new Set(), steps: 0 }));
+  const oldest = Math.max(0, at - 20 * window - 2000);
+  for (let k = at; k > oldest && found.some(({ steps }) => steps < window); k--) {
+    const use = usesOfPiece(Math.floor(k / pieceLength))[k % pieceLength];
+    if (!use || found[use.process].steps >= window) continue;
+    found[use.process].steps++;
+    for (const page of use.pages) found[use.process].pages.add(page);
+  }
+  return found;
+}
+
+function showSets(scene) {
+  if (!translates) return;
+  const window = Math.min(5000, Math.max(1, Math.floor(Number(by("window").value)) || 100));
+  const pagesText = pages => pages.length + (pages.length ? ": " + pages.slice(0, 24).map(page => hex(page)).join(" ") + (pages.length > 24 ? " .." : "") : "");
+  const rising = pages => [...pages].sort((a, b) => a - b);
+  by("sets").replaceChildren(...workingSets(window, scene.processes.length).map(({ pages }, number) => {
+    const resident = rising(scene.pages.filter(([key, state]) => state === "resident" && Number(key.split("/")[0]) === number).map(([key]) => Number(key.split("/")[1])));
+    const away = rising(pages).filter(page => !resident.includes(page));
+    const of = ofProcess(number);
+    return make("tr", {}, make("th", { ...of, scope: "row" }, String(number)), ...[rising(pages), resident, away].map(some => make("td", { class: "code wraps" }, pagesText(some))));
+  }));
 }
 
 // Whether each access of the instruction that a hart stands at is served by what it has cached.
@@ -458,9 +596,9 @@ function dataAccess(hart) {
   return [(base + Number(found[2] || 0)) >>> 0, /^(l[bhw]u?|lr\.w)$/.test(found[1]) ? "load" : "store"];
 }
 
-function uses(process, hart) {
-  if (!counted) return "";
-  const [accesses, walks] = counted[at].get(process + "/" + hart) || [0, 0];
+function uses(process, hart, counted) {
+  if (!counted) return "accesses are being counted";
+  const [accesses, walks] = counted.get(process + "/" + hart) || [0, 0];
   const share = accesses ? " (" + Math.round(100 * (accesses - walks) / accesses) + " %)" : "";
   return "accesses of the instructions that ran: " + accesses + ", hits " + (accesses - walks) + share + ", misses " + walks;
 }
@@ -475,6 +613,7 @@ function fill(select, count) {
 function showTranslation(scene) {
   if (!translates) return;
   fill(by("process"), scene.processes.length);
+  follow();
   fill(by("hart"), Math.max(1, (scene.processes[chosenProcess()] || { harts: [] }).harts.length));
   showTranslated(false);
   showCaches(scene);
@@ -483,7 +622,8 @@ function showTranslation(scene) {
 
 function show(number) {
   at = Math.max(0, Math.min(most, number));
-  const scene = scenes[at];
+  const scene = sceneAt(at);
+  const before = at ? sceneAt(at - 1) : undefined;
   const event = scene.event || (at ? "end" : "start");
   const reply = scene.reply || (at ? "the run is over" : "new machine");
   by("slider").value = at;
@@ -493,23 +633,30 @@ function show(number) {
   by("reply").textContent = reply;
   by("first").disabled = by("back").disabled = at === 0;
   by("last").disabled = by("forward").disabled = at === most;
-  by("fault-back").disabled = pageInFrom(at - 1, -1) < 0;
-  by("fault-forward").disabled = pageInFrom(at + 1, 1) < 0;
-  showAbout(scene, scenes[at - 1]);
+  by("fault-back").disabled = stopFrom(at - 1, -1) < 0;
+  by("fault-forward").disabled = stopFrom(at + 1, 1) < 0;
+  showAbout(scene, before);
   showFrames(scene);
-  showPages(scene, scenes[at - 1]);
-  showHarts(scene, scenes[at - 1]);
+  showPages(scene, before);
+  showHarts(scene, before);
   showList(scene);
   showOutputs(scene);
   showTranslation(scene);
+  showSets(scene);
   by("counts").textContent = "frames " + run.frames + " page-ins " + scene.page_ins + " victims " + scene.victims
     + " saves " + scene.saves + " drops " + scene.drops + " questions " + scene.questions;
 }
 
-// The next event that brings a page in, from one on in a direction; -1 where there is none.
-function pageInFrom(from, direction) {
-  for (let k = from; k >= 0 && k <= most; k += direction) if ((scenes[k].event || "").startsWith("pagein")) return k;
-  return -1;
+// The next event from one on in a direction that a reader stops at: a page fault, a failure or a page-in; -1 where there is none.
+function stopFrom(from, direction) {
+  let low = 0;
+  for (let high = stops.length; low < high;) {
+    const middle = (low + high) >> 1;
+    if (stops[middle] < from) low = middle + 1;
+    else high = middle;
+  }
+  const found = direction > 0 || stops[low] === from ? stops[low] : stops[low - 1];
+  return found === undefined ? -1 : found;
 }
 
 function go(number) {
@@ -517,38 +664,52 @@ function go(number) {
   try { history.replaceState(null, "", "#" + at); } catch (_) { /* a page that may not name its place goes on without */ }
 }
 
-function goToPageIn(direction) {
-  const found = pageInFrom(at + direction, direction);
+function goToStop(direction) {
+  const found = stopFrom(at + direction, direction);
   if (found >= 0) go(found);
+}
+
+// Plays on, so many events a second, until the last one or until it is paused.
+let playing = null;
+
+function play(starts) {
+  clearInterval(playing);
+  playing = starts && at < most ? setInterval(() => { go(at + 1); if (at === most) play(false); }, 1000 / Number(by("speed").value)) : null;
+  by("play").textContent = playing ? "Pause" : "Play";
 }
 
 function chosen() {
   return Number.parseInt(location.hash.slice(1), 10) || 0;
 }
 
-by("ring").style.display = longest > 64 ? "none" : "";
 by("slider").max = most;
 by("about").textContent = run.names.map(text).map((name, k) => "process " + k + " runs " + name).join("; ") + ". " + run.frames + " frames, "
-  + (isWhole ? most + " pictures, one after each event." : most + " pictures; events between them have none.");
+  + most + " pictures, one after each event.";
 by("first").onclick = () => go(0);
 by("back").onclick = () => go(at - 1);
 by("forward").onclick = () => go(at + 1);
 by("last").onclick = () => go(most);
-by("fault-back").onclick = () => goToPageIn(-1);
-by("fault-forward").onclick = () => goToPageIn(1);
+by("fault-back").onclick = () => goToStop(-1);
+by("fault-forward").onclick = () => goToStop(1);
+by("play").onclick = () => play(!playing);
+by("speed").oninput = () => play(Boolean(playing));
+by("window").oninput = () => showSets(sceneAt(at));
+by("follow").oninput = () => showTranslation(sceneAt(at));
 by("slider").oninput = event => go(Number(event.target.value));
 by("ask").onsubmit = event => { event.preventDefault(); showTranslated(true); showTree(); };
-for (const id of ["address", "access", "hart"]) by(id).oninput = () => { showTranslated(false); showTree(); };
-by("process").oninput = () => showTranslation(scenes[at]);
-by("process-label").hidden = !translates || scenes[0].processes.length < 2;
+for (const id of ["address", "access", "hart"]) by(id).oninput = () => { by("follow").checked = false; showTranslated(false); showTree(); };
+by("process").oninput = () => { by("follow").checked = false; showTranslation(sceneAt(at)); };
+by("process-label").hidden = !translates || first.processes.length < 2;
 for (const part of document.querySelectorAll(".translates")) part.hidden = !translates;
 for (const part of document.querySelectorAll(".harts")) part.hidden = !hasHarts;
+addEventListener("resize", () => showList(sceneAt(at)));
 addEventListener("hashchange", () => show(chosen()));
 addEventListener("beforeprint", () => { for (const part of document.querySelectorAll("details")) part.open = true; });
 
 const moves = {
   ArrowLeft: () => go(at - 1), ArrowRight: () => go(at + 1), PageUp: () => go(at - 1), PageDown: () => go(at + 1), Home: () => go(0), End: () => go(most),
-  n: () => goToPageIn(1), N: () => goToPageIn(1), p: () => goToPageIn(-1), P: () => goToPageIn(-1), ...(translates ? { "/": () => by("address").select() } : {}),
+  n: () => goToStop(1), N: () => goToStop(1), p: () => goToStop(-1), P: () => goToStop(-1), k: () => play(!playing), K: () => play(!playing),
+  ...(translates ? { f: () => by("follow").click(), F: () => by("follow").click() } : {}), ...(translates ? { "/": () => by("address").select() } : {}),
 };
 
 // A key means itself where it is typed or where it works a control.

@@ -1,7 +1,8 @@
 //! The commands and what each takes.
 
 ghost use Rattle.std.specs.Prelude.{◌≡◌, IfOk, false};
-ghost use Rattle.clap.specs.Simple.{app_of};
+ghost use Rattle.clap.specs.Simple.{App, app_of, new_app, with_rule, with_subcommand};
+ghost use Rattle.command_line.specs.Reads.{Reads};
 ghost use Rattle.clap.specs.Walk.{rule_of};
 ghost use Rattle.clap.specs.declared.builder.command.Command.TheViews.{out-Command};
 ghost use Rattle.command_line.specs.Commands.{paged_app, bare_app, asm_app, flat_app, clock_app, drive_app, run_app, debug_app, file_rule, files_rule, option_rule, flag_rule, with_size};
@@ -12,13 +13,24 @@ use std::alloc::{AllocError, Global};
 pub fn paged<'a>(alloc: Global) -> Result<Command<'a>, AllocError>
     ensures read_as { IfOk result (λ command. app_of command ≡ paged_app) }
 {
-    // One after another: of what is made at once, each way to give up is checked with all the others.
-    let app = bare(alloc).subcommand(asm(alloc)?)?;
-    let app = app.subcommand(flat(alloc)?)?;
-    let app = app.subcommand(clock(alloc)?)?;
-    let app = app.subcommand(drive(alloc)?)?;
-    let app = app.subcommand(run(alloc)?)?;
-    app.subcommand(debug(alloc)?)
+    let app = with(Ok(bare(alloc)), asm(alloc));
+    let app = with(app, flat(alloc));
+    let app = with(app, clock(alloc));
+    let app = with(app, drive(alloc));
+    let app = with(app, run(alloc));
+    with(app, debug(alloc))
+}
+
+/// The program with another command, where both could be made.
+fn with<'a>(
+    app: Result<Command<'a>, AllocError>,
+    command: Result<Command<'a>, AllocError>,
+) -> Result<Command<'a>, AllocError>
+    ensures { (above : App) (below : App) → Reads above app.entry → Reads below command.entry →
+        Reads (with_subcommand above below.top) result }
+{
+    let app = app?;
+    app.subcommand(command?)
 }
 
 fn bare<'a>(alloc: Global) -> Command<'a>
@@ -31,79 +43,92 @@ fn bare<'a>(alloc: Global) -> Command<'a>
 }
 
 fn asm<'a>(alloc: Global) -> Result<Command<'a>, AllocError>
-    ensures read_as { IfOk result (λ command. app_of command ≡ asm_app) }
-    ensures local { IfOk result (λ command. (out-Command command).has_globals ≡ false) }
+    ensures { Reads asm_app result }
 {
-    Command::new(alloc, "asm")
-        .arg(file(alloc, "source"))?
-        .arg(file(alloc, "target"))
+    let command = named(alloc, "asm");
+    let command = with_file(alloc, command, "source");
+    with_file(alloc, command, "target")
 }
 
 fn flat<'a>(alloc: Global) -> Result<Command<'a>, AllocError>
-    ensures read_as { IfOk result (λ command. app_of command ≡ flat_app) }
-    ensures local { IfOk result (λ command. (out-Command command).has_globals ≡ false) }
+    ensures { Reads flat_app result }
 {
-    Command::new(alloc, "flat")
-        .arg(option(alloc, "limit"))?
-        .arg(option(alloc, "input"))?
-        .arg(file(alloc, "image"))
+    let command = named(alloc, "flat");
+    let command = with_option(alloc, command, "limit");
+    let command = with_option(alloc, command, "input");
+    with_file(alloc, command, "image")
 }
 
 fn clock<'a>(alloc: Global) -> Result<Command<'a>, AllocError>
-    ensures read_as { IfOk result (λ command. app_of command ≡ clock_app) }
-    ensures local { IfOk result (λ command. (out-Command command).has_globals ≡ false) }
+    ensures { Reads clock_app result }
 {
-    Command::new(alloc, "clock")
-        .arg(file(alloc, "frames"))?
-        .arg(file(alloc, "script"))
+    let command = named(alloc, "clock");
+    let command = with_file(alloc, command, "frames");
+    with_file(alloc, command, "script")
 }
 
 fn drive<'a>(alloc: Global) -> Result<Command<'a>, AllocError>
-    ensures read_as { IfOk result (λ command. app_of command ≡ drive_app) }
-    ensures local { IfOk result (λ command. (out-Command command).has_globals ≡ false) }
+    ensures { Reads drive_app result }
 {
-    sized(alloc, Command::new(alloc, "drive"))?
-        .arg(file(alloc, "script"))?
-        .arg(files(alloc, "image"))
+    let command = sized(alloc, named(alloc, "drive"));
+    let command = with_file(alloc, command, "script");
+    with_files(alloc, command, "image")
 }
 
 fn run<'a>(alloc: Global) -> Result<Command<'a>, AllocError>
-    ensures read_as { IfOk result (λ command. app_of command ≡ run_app) }
-    ensures local { IfOk result (λ command. (out-Command command).has_globals ≡ false) }
+    ensures { Reads run_app result }
 {
-    sized(alloc, Command::new(alloc, "run"))?
-        .arg(option(alloc, "workers"))?
-        .arg(option(alloc, "slice"))?
-        .arg(option(alloc, "limit"))?
-        .arg(option(alloc, "input"))?
-        .arg(option(alloc, "swap"))?
-        .arg(flag(alloc, "serial"))?
-        .arg(flag(alloc, "status"))?
-        .arg(flag(alloc, "ahead"))?
-        .arg(files(alloc, "image"))
+    let command = sized(alloc, named(alloc, "run"));
+    let command = with_option(alloc, command, "workers");
+    let command = with_option(alloc, command, "slice");
+    let command = with_option(alloc, command, "limit");
+    let command = with_option(alloc, command, "input");
+    let command = with_option(alloc, command, "swap");
+    let command = with_flag(alloc, command, "serial");
+    let command = with_flag(alloc, command, "status");
+    let command = with_flag(alloc, command, "ahead");
+    with_files(alloc, command, "image")
 }
 
 fn debug<'a>(alloc: Global) -> Result<Command<'a>, AllocError>
-    ensures read_as { IfOk result (λ command. app_of command ≡ debug_app) }
-    ensures local { IfOk result (λ command. (out-Command command).has_globals ≡ false) }
+    ensures { Reads debug_app result }
 {
-    Command::new(alloc, "debug")
-        .arg(option(alloc, "frames"))?
-        .arg(file(alloc, "image"))
+    let command = named(alloc, "debug");
+    let command = with_option(alloc, command, "frames");
+    with_file(alloc, command, "image")
+}
+
+/// A command that takes nothing yet.
+fn named<'a>(alloc: Global, name: &'a str) -> Result<Command<'a>, AllocError>
+    ensures { Reads (new_app name.now) result }
+{
+    Ok(Command::new(alloc, name))
 }
 
 /// The command with options for the size of its machine.
-fn sized<'a>(alloc: Global, command: Command<'a>) -> Result<Command<'a>, AllocError>
-    requires local { (out-Command command).has_globals ≡ false }
-    ensures read_as { IfOk result (λ sized. app_of sized ≡ with_size (app_of command.entry)) }
-    ensures local { IfOk result (λ sized. (out-Command sized).has_globals ≡ false) }
+fn sized<'a>(
+    alloc: Global,
+    command: Result<Command<'a>, AllocError>,
+) -> Result<Command<'a>, AllocError>
+    ensures { (app : App) → Reads app command.entry → Reads (with_size app) result }
 {
-    command
-        .arg(option(alloc, "frames"))?
-        .arg(option(alloc, "slots"))
+    let command = with_option(alloc, command, "frames");
+    with_option(alloc, command, "slots")
 }
 
-/// A word that has to be there.
+/// The command with a word that has to be there, where it could be made.
+fn with_file<'a>(
+    alloc: Global,
+    command: Result<Command<'a>, AllocError>,
+    name: &'a str,
+) -> Result<Command<'a>, AllocError>
+    ensures { (app : App) → Reads app command.entry →
+        Reads (with_rule app (file_rule name.now)) result }
+{
+    let arg = file(alloc, name);
+    command?.arg(arg)
+}
+
 fn file<'a>(alloc: Global, name: &'a str) -> Arg<'a>
     ensures read_as { rule_of result ≡ file_rule name.now }
     ensures local { result.global ≡ false }
@@ -111,7 +136,19 @@ fn file<'a>(alloc: Global, name: &'a str) -> Arg<'a>
     Arg::new(alloc, name).required(true)
 }
 
-/// Words of which one has to be there.
+/// The command with words of which one has to be there, where it could be made.
+fn with_files<'a>(
+    alloc: Global,
+    command: Result<Command<'a>, AllocError>,
+    name: &'a str,
+) -> Result<Command<'a>, AllocError>
+    ensures { (app : App) → Reads app command.entry →
+        Reads (with_rule app (files_rule name.now)) result }
+{
+    let arg = files(alloc, name);
+    command?.arg(arg)
+}
+
 fn files<'a>(alloc: Global, name: &'a str) -> Arg<'a>
     ensures read_as { rule_of result ≡ files_rule name.now }
     ensures local { result.global ≡ false }
@@ -121,7 +158,19 @@ fn files<'a>(alloc: Global, name: &'a str) -> Arg<'a>
         .action(ArgAction::Append)
 }
 
-/// An option with a value.
+/// The command with an option with a value, where it could be made.
+fn with_option<'a>(
+    alloc: Global,
+    command: Result<Command<'a>, AllocError>,
+    name: &'a str,
+) -> Result<Command<'a>, AllocError>
+    ensures { (app : App) → Reads app command.entry →
+        Reads (with_rule app (option_rule name.now)) result }
+{
+    let arg = option(alloc, name);
+    command?.arg(arg)
+}
+
 fn option<'a>(alloc: Global, name: &'a str) -> Arg<'a>
     ensures read_as { rule_of result ≡ option_rule name.now }
     ensures local { result.global ≡ false }
@@ -129,7 +178,19 @@ fn option<'a>(alloc: Global, name: &'a str) -> Arg<'a>
     Arg::new(alloc, name).long(name)
 }
 
-/// An option that has no value.
+/// The command with an option that has no value, where it could be made.
+fn with_flag<'a>(
+    alloc: Global,
+    command: Result<Command<'a>, AllocError>,
+    name: &'a str,
+) -> Result<Command<'a>, AllocError>
+    ensures { (app : App) → Reads app command.entry →
+        Reads (with_rule app (flag_rule name.now)) result }
+{
+    let arg = flag(alloc, name);
+    command?.arg(arg)
+}
+
 fn flag<'a>(alloc: Global, name: &'a str) -> Arg<'a>
     ensures read_as { rule_of result ≡ flag_rule name.now }
     ensures local { result.global ≡ false }

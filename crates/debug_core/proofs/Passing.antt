@@ -10,7 +10,7 @@ use Rattle.page_memory.specs.Words.{page_number, page_offset}
 use Rattle.debug_core.specs.Points.{bytes_from, point_at, IsPoint, ArePoints}
 use Rattle.debug_core.specs.Seen.{AreSeen, IsSeen}
 use Rattle.debug_core.specs.Limits.{Limit}
-use Rattle.debug_core.specs.Stops.{Moment, moment_after, next_moment, reason, Advances, IsFullAt, Passes, StopsFor}
+use Rattle.debug_core.specs.Stops.{Moment, last_hart, moment_after, next_moment, reason, Advances, IsFullAt, Passes, StopsFor}
 use Rattle.flat_machine.specs.Process.{Process}
 use Rattle.debug_core.specs.declared.point.Why.{Why}
 use Rattle.debug_core.specs.declared.point.Why.TheVariants.{Ended, Watch as Watched, Break as Broke, Limit as Limited, Absent}
@@ -34,6 +34,17 @@ passes_more limits points limit count first now next passes none recordable step
       within = let within = passes.within in omega (arith, below);
       before = λ k h. below_more (λ i. IfSome (moment_after i first) (λ m. (reason points limit i m ≡ None) × (¬ IsFullAt limits i first m))) count (λ i l. passes.before i l) here k h;
     }
+
+pub last_of_none : (first : Moment) → last_hart 0 first ≡ Some first.turn
+unfolding last_hart
+last_of_none first = refl
+
+-- the last step is that of the hart whose turn it was
+pub last_of_more : (count : ℕ) (first now : Moment) → moment_after count first ≡ Some now → last_hart (count + 1) first ≡ Some now.turn
+unfolding last_hart
+last_of_more count first now reached =
+    let more : count + 1 ≡ suc count = omega arith in
+    ap (λ k. last_hart k first) more ∙ ap (option_map (λ (m : Moment). m.turn)) reached
 
 module _ {T : Type 0} (shown : T → Process) (limits : T → Limit → Type 0) where
   -- a step of a run by what it was answered with

@@ -138,12 +138,12 @@ module _ (used : ℕ) (points : List (Option Point)) (none : (number : ℕ) → 
       turn_is = wants.turn_is;
     }
 
-    pub stops_answered : (target : T) (limit : ℕ) (first : Moment) (turn : ℕ) (process : Process) {E : Type 0} (answer : Result (Why × ℕ) E)
+    pub stops_answered : (target : T) (limit : ℕ) (first : Moment) (turn : ℕ) (process : Process) {E : Type 0} (answer : Result (Why × ℕ × ℕ) E)
         → IfOk answer (λ stop. Stops shown limits target (take used points) limit stop.0 stop.1 first turn process) → IfOk answer (λ stop. Stops shown limits target points limit stop.0 stop.1 first turn process)
     stops_answered target limit first turn process (Ok stop) stops = stops_trimmed target limit stop.0 stop.1 first turn process stops
     stops_answered target limit first turn process (Err error) stops = stops
 
-    pub wants_answered : (target : T) (limit : ℕ) (first : Moment) (turn : ℕ) (process : Process) {E : Type 0} (answer : Result (Why × ℕ) E)
+    pub wants_answered : (target : T) (limit : ℕ) (first : Moment) (turn : ℕ) (process : Process) {E : Type 0} (answer : Result (Why × ℕ × ℕ) E)
         → OnErr answer (Wants limits target (take used points) limit first turn process) → OnErr answer (Wants limits target points limit first turn process)
     wants_answered target limit first turn process (Ok stop) wants = wants
     wants_answered target limit first turn process (Err error) wants = wants_trimmed target limit first turn process wants

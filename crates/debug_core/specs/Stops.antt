@@ -30,6 +30,11 @@ unfoldable pub moment_after : ℕ → Moment → Option Moment
 moment_after zero now = Some now
 moment_after (suc count) now = option_and_then next_moment (moment_after count now)
 
+-- the hart of the last of so many steps; before the first the hart whose turn it is
+unfoldable pub last_hart : ℕ → Moment → Option ℕ
+last_hart zero first = Some first.turn
+last_hart (suc count) first = option_map (λ now. now.turn) (moment_after count first)
+
 -- the least number of a watch of which the last step changed a byte
 abbrev pub watch_hit : List (Option Point) → Moment → Option ℕ
 watch_hit points now = position_from (is_hit now.was now.process.memory) 0 points

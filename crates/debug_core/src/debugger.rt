@@ -3,7 +3,7 @@ ghost use Rattle.flat_machine.specs.ByTurns.{first_turn};
 ghost use Rattle.flat_machine.specs.Process.{hart_registers, is_live};
 ghost use Rattle.debug_core.specs.Debugging.{first_moment, lowest_free, AddsPoint, RefusesStep, StepsOnce};
 ghost use Rattle.debug_core.specs.Points.{point_at, IsRange};
-ghost use Rattle.debug_core.specs.Stops.{Stops, Wants};
+ghost use Rattle.debug_core.specs.Stops.{last_hart, Stops, Wants};
 ghost use Rattle.debug_core.specs.declared.point.Point.TheVariants as point;
 ghost use Rattle.debug_core.specs.declared.refusal.DebugRefusal.TheVariants as refusal;
 
@@ -11,6 +11,7 @@ use crate::point::{DebugStep, MOST_POINTS, MOST_WATCHED, Point, Why};
 use crate::refusal::DebugRefusal;
 use crate::running::run;
 use crate::target::{Target, TargetStep};
+use flat_machine::End;
 use rv_exec::Regs;
 use std::alloc::AllocError;
 use std::marker::Model;
@@ -138,16 +139,19 @@ impl<T: Target> Debugger<T> {
 
     /// Steps the hart whose turn it is, then the next, until there is a reason to stop: the process has ended, a byte that is
     /// watched was changed, the hart whose turn it is stands at a break, or so many steps were done. Tells the reason, with the
-    /// point's number where there are several the lowest, and how many steps were done.
+    /// point's number where there are several the lowest, how many steps were done, and the hart of the last one: of none the
+    /// hart whose turn it was.
     ///
     /// # Errors
     ///
     /// Want of memory for a step; the steps before it stand.
     #[tactic(auto, using(crate::proofs::Trimmed::points_trimmed))]
-    pub fn go(&mut self, limit: u64) -> Result<(Why, u64), AllocError>
+    pub fn go(&mut self, limit: u64) -> Result<(Why, u64, u32), AllocError>
         ensures stops { IfOk result (λ stop. Stops T.shown T.limits self.old.target self.old.points
             limit stop.0 stop.1 (first_moment (T.shown self.old.target) self.old.turn)
             self.new.turn (T.shown self.new.target)) }
+        ensures last { IfOk result (λ stop. last_hart stop.1
+            (first_moment (T.shown self.old.target) self.old.turn) ≡ Some stop.2) }
         ensures wants { OnErr result (Wants T.limits self.old.target self.old.points limit
             (first_moment (T.shown self.old.target) self.old.turn) self.new.turn
             (T.shown self.new.target)) }
@@ -163,6 +167,20 @@ impl<T: Target> Debugger<T> {
         ensures { result ≡ self.now.turn }
     {
         self.turn
+    }
+
+    /// Whether a hart was started and has not ended.
+    pub fn is_live(&self, hart: u32) -> bool
+        ensures { result ≡ is_live hart (T.shown self.now.target) }
+    {
+        self.target.is_live(hart)
+    }
+
+    /// How the process ended, if it did.
+    pub fn end(&self) -> Option<End>
+        ensures { result ≡ (T.shown self.now.target).ending }
+    {
+        self.target.end()
     }
 
     /// A hart's registers.

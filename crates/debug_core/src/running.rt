@@ -9,7 +9,7 @@ ghost use Rattle.debug_core.specs.Debugging.{first_moment};
 ghost use Rattle.debug_core.specs.Limits.{CannotRecord, KeepsRoom, RecordsOne};
 ghost use Rattle.debug_core.specs.Points.{is_break_at, ArePoints};
 ghost use Rattle.debug_core.specs.Seen.{AreSeen, IsUnread};
-ghost use Rattle.debug_core.specs.Stops.{break_at, reason, Advances, Stops, Wants};
+ghost use Rattle.debug_core.specs.Stops.{break_at, last_hart, reason, Advances, Stops, Wants};
 ghost use Rattle.debug_core.specs.declared.point.Why.TheVariants as why;
 
 use crate::looking::{NOTHING, Window, look};
@@ -150,7 +150,8 @@ fn advance<T: Target>(
     }
 }
 
-/// Steps the harts by turns until there is a reason to stop. Tells the reason, and how many steps were done.
+/// Steps the harts by turns until there is a reason to stop. Tells the reason, how many steps were done, and the hart of the last
+/// one: of none the hart whose turn it is.
 ///
 /// # Errors
 ///
@@ -160,22 +161,29 @@ pub(crate) fn run<T: Target>(
     turn: &mut u32,
     points: &[Option<Point>],
     limit: u64,
-) -> Result<(Why, u64), AllocError>
+) -> Result<(Why, u64, u32), AllocError>
     requires live { is_live turn.old (T.shown target.old) ≡ true }
     requires points { ArePoints points.now }
     requires few { length points.now ≤ 32 }
     ensures stops { IfOk result (λ stop. Stops T.shown T.limits target.old points.now limit stop.0
         stop.1 (first_moment (T.shown target.old) turn.old) turn.new (T.shown target.new)) }
+    ensures last { IfOk result (λ stop. last_hart stop.1 (first_moment (T.shown target.old)
+        turn.old) ≡ Some stop.2) }
     ensures wants { OnErr result (Wants T.limits target.old points.now limit
         (first_moment (T.shown target.old) turn.old) turn.new (T.shown target.new)) }
     ensures live { is_live turn.new (T.shown target.new) ≡ true }
 {
     let mut seen = [NOTHING; MOST_POINTS];
     let mut done: u64 = 0;
+    let mut last = *turn;
     'steps: loop {
+        let now = *turn;
         match advance(target, turn, points, &mut seen, done, limit) {
-            Ok(None) => done += 1,
-            Ok(Some(why)) => return Ok((why, done)),
+            Ok(None) => {
+                done += 1;
+                last = now;
+            }
+            Ok(Some(why)) => return Ok((why, done, last)),
             Err(AllocError) => return Err(AllocError),
         }
     }

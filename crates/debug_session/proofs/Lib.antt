@@ -1,3 +1,4 @@
 pub mod Passed
 pub mod TakenLines
 pub mod RegisterLines
+pub mod FullerLines

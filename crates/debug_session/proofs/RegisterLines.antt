@@ -1,5 +1,5 @@
 -- One more register's line.
-use Rattle.std.proofs.Common.{◌≡◌, ℕ, ◌+◌, ◌++◌, ◌∷◌, List, [], add-one, append-nil, append_assoc, refl, sym, ap, ◌∙◌, codes}
+use Rattle.std.proofs.Common.{◌≡◌, ℕ, ◌+◌, ◌++◌, ◌∷◌, List, [], add-one, append_assoc, refl, codes}
 use Rattle.std.specs.Fmt.{decimal}
 use Rattle.rv_exec.specs.Registers.{Registers, register}
 use Rattle.debug_session.specs.ReplyText.{register_lines, word_text}

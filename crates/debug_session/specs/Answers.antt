@@ -1,16 +1,17 @@
 -- What a debugger does for a line, and replies: for each line the debugger's call that it names, by what that call does.
-use Rattle.std.specs.Prelude.{◌≡◌, ◌⊎◌, ℕ, List, map, slice_set, Option, None, Some, IsSomeAnd}
-use Rattle.flat_machine.specs.Process.{Process, hart_registers}
+use Rattle.std.specs.Prelude.{◌≡◌, ◌⊎◌, ℕ, map, slice_set, Option, None, Some, IsSomeAnd}
+use Rattle.flat_machine.specs.Process.{Process, hart_registers, is_live}
 use Rattle.debug_core.specs.Debugging.{DebuggerValue, AddsPoint, RefusesLook, RefusesStep, StepsOnce, first_moment, lowest_free}
 use Rattle.debug_core.specs.Limits.{Limit}
 use Rattle.debug_core.specs.Points.{bytes_from, point_at, IsRange}
-use Rattle.debug_core.specs.Stops.{Stops, Wants}
+use Rattle.debug_core.specs.Stops.{Stops, Wants, last_hart}
 use Rattle.debug_core.specs.declared.point.Point.TheVariants as point
 use Rattle.debug_core.specs.declared.refusal.DebugRefusal.TheVariants as refusal
 use Rattle.debug_session.specs.declared.lines.DebugLine.{DebugLine}
-use Rattle.debug_session.specs.declared.lines.DebugLine.TheVariants.{Break, Watch, Remove, Step, Go, Regs, Mem, Quit}
+use Rattle.debug_session.specs.declared.lines.DebugLine.TheVariants.{Break, Watch, Remove, Step, Go, Regs, Mem, Run, End, Quit}
+use Rattle.debug_session.specs.declared.lines.DebugLine.TheVariants as line
 use Rattle.debug_session.specs.declared.reply.DebugReply.{DebugReply}
-use Rattle.debug_session.specs.declared.reply.DebugReply.TheVariants.{Point, Removed, Stepped, Stopped, Registers, Bytes, Refused}
+use Rattle.debug_session.specs.declared.reply.DebugReply.TheVariants.{Point, Removed, Stepped, Stopped, Told, Ending, Live, Registers, Bytes, Refused}
 
 -- a point is added under the lowest free number, or there is none
 abbrev pub AnswersBreak : {T : Type 0} → ℕ → DebuggerValue T → DebugReply → DebuggerValue T → Type 0
@@ -55,11 +56,31 @@ module _ {T : Type 0} (shown : T → Process) (limits : T → Limit → Type 0) 
       × (new.points ≡ old.points)
   AnswersGo limit old other new = ⊥
 
+  -- the same, with the hart of the last step
+  abbrev pub AnswersRun : ℕ → DebuggerValue T → DebugReply → DebuggerValue T → Type 0
+  AnswersRun limit old (Told why last turn steps) new =
+      Stops shown limits old.target old.points limit why steps (first_moment (shown old.target) old.turn) new.turn (shown new.target)
+      × (last_hart steps (first_moment (shown old.target) old.turn) ≡ Some last) × (turn ≡ new.turn) × (new.points ≡ old.points)
+  AnswersRun limit old (Refused why) new =
+      (why ≡ refusal.NoMemory) × Wants limits old.target old.points limit (first_moment (shown old.target) old.turn) new.turn (shown new.target)
+      × (new.points ≡ old.points)
+  AnswersRun limit old other new = ⊥
+
   -- the flat process's registers
   abbrev pub AnswersRegs : ℕ → DebuggerValue T → DebugReply → DebuggerValue T → Type 0
   AnswersRegs hart old (Registers regs) new = (hart_registers hart (shown old.target) ≡ Some regs) × (new ≡ old)
   AnswersRegs hart old (Refused why) new = (why ≡ refusal.NoHart) × (hart_registers hart (shown old.target) ≡ None) × (new ≡ old)
   AnswersRegs hart old other new = ⊥
+
+  -- how the flat process ended
+  abbrev pub AnswersEnd : DebuggerValue T → DebugReply → Type 0
+  AnswersEnd now (Ending end) = (shown now.target).ending ≡ end
+  AnswersEnd now other = ⊥
+
+  -- whether a hart of the flat process is live
+  abbrev pub AnswersLive : ℕ → DebuggerValue T → DebugReply → Type 0
+  AnswersLive hart now (Live is) = is ≡ is_live hart (shown now.target)
+  AnswersLive hart now other = ⊥
 
   -- what is shown, the points and the turn stay
   abbrev pub ShowsTheSame : DebuggerValue T → DebuggerValue T → Type 0
@@ -82,4 +103,7 @@ module _ {T : Type 0} (shown : T → Process) (limits : T → Limit → Type 0) 
   Answers (Go limit) old reply new = IsSomeAnd reply (λ reply. AnswersGo limit old reply new)
   Answers (Regs hart) old reply new = IsSomeAnd reply (λ reply. AnswersRegs hart old reply new)
   Answers (Mem address length) old reply new = IsSomeAnd reply (λ reply. AnswersMem address length old reply new)
+  Answers (Run limit) old reply new = IsSomeAnd reply (λ reply. AnswersRun limit old reply new)
+  Answers End old reply new = IsSomeAnd reply (λ reply. AnswersEnd old reply × (new ≡ old))
+  Answers (line.Live hart) old reply new = IsSomeAnd reply (λ reply. AnswersLive hart old reply × (new ≡ old))
   Answers Quit old reply new = (reply ≡ None) × (new ≡ old)

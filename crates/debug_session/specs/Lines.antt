@@ -4,19 +4,35 @@ use Rattle.text_lines.specs.Text.{words_of}
 use Rattle.text_lines.specs.Calls.{AreNameAndNumber, AreNameAndNumbers}
 use Rattle.text_lines.specs.Lines.{IsSkipped}
 use Rattle.debug_session.specs.declared.lines.DebugLine.{DebugLine}
-use Rattle.debug_session.specs.declared.lines.DebugLine.TheVariants.{Break, Watch, Remove, Step, Go, Regs, Mem, Quit}
+use Rattle.debug_session.specs.declared.lines.DebugLine.TheVariants.{Break, Watch, Remove, Step, Go, Regs, Mem, Run, End, Live, Quit}
+use Rattle.debug_session.specs.declared.lines.Dialect.{Dialect}
+use Rattle.debug_session.specs.declared.lines.Dialect.TheVariants.{Fuller}
 
--- the words that ask for something
-abbrev pub WritesLine : DebugLine → List (List ℕ) → Type 0
-WritesLine (Break address) words = AreNameAndNumber (codes "break") address words
-WritesLine (Watch address length) words = AreNameAndNumbers (codes "watch") address length words
-WritesLine (Remove number) words = AreNameAndNumber (codes "remove") number words
-WritesLine (Step hart) words = AreNameAndNumber (codes "step") hart words
-WritesLine (Go limit) words = AreNameAndNumber (codes "go") limit words
-WritesLine (Regs hart) words = AreNameAndNumber (codes "regs") hart words
-WritesLine (Mem address length) words = AreNameAndNumbers (codes "mem") address length words
-WritesLine Quit words = words ≡ codes "quit" ∷ []
+-- the words that ask for something in a dialect: in the plain one there is nothing that asks to run, for the end, or for live harts
+abbrev pub WritesLine : Dialect → DebugLine → List (List ℕ) → Type 0
+WritesLine dialect (Break address) words = AreNameAndNumber (codes "break") address words
+WritesLine dialect (Watch address length) words = AreNameAndNumbers (codes "watch") address length words
+WritesLine dialect (Remove number) words = AreNameAndNumber (codes "remove") number words
+WritesLine dialect (Step hart) words = AreNameAndNumber (codes "step") hart words
+WritesLine dialect (Go limit) words = AreNameAndNumber (codes "go") limit words
+WritesLine dialect (Regs hart) words = AreNameAndNumber (codes "regs") hart words
+WritesLine dialect (Mem address length) words = AreNameAndNumbers (codes "mem") address length words
+WritesLine dialect Quit words = words ≡ codes "quit" ∷ []
+WritesLine dialect End words = (dialect ≡ Fuller) × (words ≡ codes "end" ∷ [])
+WritesLine dialect (Run limit) words = (dialect ≡ Fuller) × AreNameAndNumber (codes "run") limit words
+WritesLine dialect (Live hart) words = (dialect ≡ Fuller) × AreNameAndNumber (codes "live") hart words
+
+-- the same of one word that only the fuller dialect has
+abbrev pub WritesWord : Dialect → DebugLine → List ℕ → Type 0
+WritesWord dialect End word = (dialect ≡ Fuller) × (word ≡ codes "end")
+WritesWord dialect other word = ⊥
+
+-- the same of a name with a number behind it that only the fuller dialect has
+abbrev pub WritesFuller : Dialect → DebugLine → List ℕ → ℕ → Type 0
+WritesFuller dialect (Run limit) name number = (dialect ≡ Fuller) × (name ≡ codes "run") × (limit ≡ number)
+WritesFuller dialect (Live hart) name number = (dialect ≡ Fuller) × (name ≡ codes "live") × (hart ≡ number)
+WritesFuller dialect other name number = ⊥
 
 -- a line that is not skipped, and whose words ask for something
-abbrev pub AsksFor : DebugLine → List ℕ → Type 0
-AsksFor asked line = (¬ IsSkipped line) × WritesLine asked (words_of line)
+abbrev pub AsksFor : Dialect → DebugLine → List ℕ → Type 0
+AsksFor dialect asked line = (¬ IsSkipped line) × WritesLine dialect asked (words_of line)

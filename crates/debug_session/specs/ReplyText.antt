@@ -1,13 +1,14 @@
 -- What is printed of a reply.
-use Rattle.std.specs.Prelude.{ℕ, zero, suc, ◌/◌, ◌%◌, true, List, [], ◌∷◌, ◌++◌, codes, flat_map}
+use Rattle.std.specs.Prelude.{ℕ, zero, suc, ◌/◌, ◌%◌, true, false, None, Some, List, [], ◌∷◌, ◌++◌, codes, flat_map}
 use Rattle.std.specs.Fmt.{decimal, digit_glyph}
+use Rattle.process_text.specs.ProcessText.{ending_text}
 use Rattle.rv_exec.specs.Registers.{Registers, register}
 use Rattle.debug_core.specs.RefusalNumber.{refusal_number}
 use Rattle.debug_core.specs.declared.point.DebugStep.TheVariants.{Ran, Absent}
 use Rattle.debug_core.specs.declared.point.Why.{Why}
 use Rattle.debug_core.specs.declared.point.Why.TheVariants as why
 use Rattle.debug_session.specs.declared.reply.DebugReply.{DebugReply}
-use Rattle.debug_session.specs.declared.reply.DebugReply.TheVariants.{Point, Removed, Stepped, Stopped, Registers as Values, Bytes, Refused}
+use Rattle.debug_session.specs.declared.reply.DebugReply.TheVariants.{Point, Removed, Stepped, Stopped, Told, Ending, Live, Registers as Values, Bytes, Refused}
 
 -- a byte in two hexadecimal digits, their letters capital
 unfoldable pub byte_text : ℕ → List ℕ
@@ -41,12 +42,26 @@ why_text (why.Break number) turn = codes "break " ++ decimal number ++ codes " h
 why_text why.Limit turn = codes "limit"
 why_text why.Absent turn = codes "absent"
 
+-- why a debugger stopped, with no hart
+abbrev pub told_why : Why → List ℕ
+told_why why.Ended = codes "ended"
+told_why (why.Watch number) = codes "watch " ++ decimal number
+told_why (why.Break number) = codes "break " ++ decimal number
+told_why why.Limit = codes "limit"
+told_why why.Absent = codes "absent"
+
 abbrev pub reply_text : DebugReply → List ℕ
 reply_text (Point number) = codes "point " ++ decimal number
 reply_text Removed = codes "removed"
 reply_text (Stepped Ran) = codes "ran"
 reply_text (Stepped Absent) = codes "absent"
 reply_text (Stopped why turn steps) = why_text why turn ++ codes " after " ++ decimal steps
+reply_text (Told why last turn steps) =
+    told_why why ++ codes " last " ++ decimal last ++ codes " turn " ++ decimal turn ++ codes " after " ++ decimal steps
+reply_text (Ending None) = codes "goes on"
+reply_text (Ending (Some end)) = ending_text end
+reply_text (Live true) = codes "live"
+reply_text (Live false) = codes "not live"
 reply_text (Values regs) = registers_text regs
 reply_text (Bytes bytes) = bytes_text bytes.items
 reply_text (Refused refusal) = codes "refused " ++ decimal (refusal_number refusal)

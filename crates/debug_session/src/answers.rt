@@ -1,6 +1,6 @@
 //! What a debugger does for a line, and replies.
 
-ghost use Rattle.debug_session.specs.Answers.{Answers, AnswersBreak, AnswersWatch, AnswersRemove, AnswersStep, AnswersGo, AnswersRegs, AnswersMem};
+ghost use Rattle.debug_session.specs.Answers.{Answers, AnswersBreak, AnswersWatch, AnswersRemove, AnswersStep, AnswersGo, AnswersRun, AnswersEnd, AnswersLive, AnswersRegs, AnswersMem};
 
 use crate::lines::DebugLine;
 use crate::reply::DebugReply;
@@ -23,6 +23,9 @@ pub fn answer<T: Target>(
         DebugLine::Go { limit } => Some(go(debugger, limit)),
         DebugLine::Regs { hart } => Some(regs(debugger, hart)),
         DebugLine::Mem { address, length } => Some(mem(alloc, debugger, address, length)),
+        DebugLine::Run { limit } => Some(run(debugger, limit)),
+        DebugLine::End => Some(end(debugger)),
+        DebugLine::Live { hart } => Some(is_live(debugger, hart)),
         DebugLine::Quit => None,
     }
 }
@@ -67,13 +70,39 @@ fn go<T: Target>(debugger: &mut Debugger<T>, limit: u32) -> DebugReply
     ensures { AnswersGo T.shown T.limits limit debugger.old result debugger.new }
 {
     match debugger.go(u64::from(limit)) {
-        Ok((why, steps)) => DebugReply::Stopped {
+        Ok((why, steps, _)) => DebugReply::Stopped {
             why,
             turn: debugger.turn(),
             steps,
         },
         Err(AllocError) => DebugReply::Refused(DebugRefusal::NoMemory),
     }
+}
+
+fn run<T: Target>(debugger: &mut Debugger<T>, limit: u32) -> DebugReply
+    ensures { AnswersRun T.shown T.limits limit debugger.old result debugger.new }
+{
+    match debugger.go(u64::from(limit)) {
+        Ok((why, steps, last)) => DebugReply::Told {
+            why,
+            last,
+            turn: debugger.turn(),
+            steps,
+        },
+        Err(AllocError) => DebugReply::Refused(DebugRefusal::NoMemory),
+    }
+}
+
+fn end<T: Target>(debugger: &Debugger<T>) -> DebugReply
+    ensures { AnswersEnd T.shown T.limits debugger.now result }
+{
+    DebugReply::Ending(debugger.end())
+}
+
+fn is_live<T: Target>(debugger: &Debugger<T>, hart: u32) -> DebugReply
+    ensures { AnswersLive T.shown T.limits hart debugger.now result }
+{
+    DebugReply::Live(debugger.is_live(hart))
 }
 
 fn regs<T: Target>(debugger: &mut Debugger<T>, hart: u32) -> DebugReply

@@ -3,6 +3,7 @@
 ghost use Rattle.debug_session.specs.Conversation.{HasConversed};
 
 use crate::input_lines::{InputLines, LineFault};
+use crate::lines::Dialect;
 use crate::turn::{Turn, take_turn};
 use debug_core::{Debugger, Target};
 use std::alloc::Global;
@@ -23,15 +24,16 @@ pub enum SessionFault {
     CannotWrite,
 }
 
-/// Answers the lines of an input, each before the next is read, until one is `quit`, or there are no more, or one is bad.
+/// Answers the lines of an input that a dialect has, each before the next is read, until one is `quit`, or there are no more, or one is bad.
 pub fn converse<T: Target, I: Read + Drop, O: Write>(
     alloc: Global,
+    dialect: Dialect,
     debugger: &mut Debugger<T>,
     input: I,
     out: &mut O,
 ) -> Result<(), SessionFault>
-    ensures { HasConversed T.shown T.limits result (I.remaining input) debugger.old
-        (O.contents out.old) debugger.new (O.contents out.new) }
+    ensures { HasConversed dialect T.shown T.limits result (I.remaining input)
+        debugger.old (O.contents out.old) debugger.new (O.contents out.new) }
 {
     let Ok(mut lines) = InputLines::new(alloc, input) else {
         return Err(SessionFault::NoMemory);
@@ -46,7 +48,7 @@ pub fn converse<T: Target, I: Read + Drop, O: Write>(
             Err(LineFault::NoMemory) => return Err(SessionFault::NoMemory),
             Err(LineFault::CannotRead) => return Err(SessionFault::CannotRead),
         }
-        match take_turn(alloc, debugger, line.as_slice(), out) {
+        match take_turn(alloc, dialect, debugger, line.as_slice(), out) {
             Ok(Turn::GoesOn) => {}
             Ok(Turn::Quits) => return Ok(()),
             Ok(Turn::Bad) => return Err(SessionFault::BadLine(above + 1)),

@@ -13,6 +13,6 @@ mod turn;
 
 pub use answers::answer;
 pub use conversation::{SessionFault, converse};
-pub use lines::{DebugLine, debug_line};
+pub use lines::{DebugLine, Dialect, debug_line};
 pub use prompted_input::PromptedInput;
 pub use reply::DebugReply;

@@ -3,11 +3,20 @@
 ghost use Rattle.std.specs.Prelude.{◌≡◌, ◌↔◌, ◌∷◌, [], IfOk, IfSome, IsErr, IsTrue, IsUtf8, None, Ok};
 ghost use Rattle.text_lines.specs.Text.{words_of};
 ghost use Rattle.text_lines.specs.Lines.{IsSkipped};
-ghost use Rattle.debug_session.specs.Lines.{AsksFor, WritesLine};
+ghost use Rattle.debug_session.specs.Lines.{AsksFor, WritesFuller, WritesLine, WritesWord};
 ghost use Rattle.debug_session.specs.declared.lines.DebugLine.{DebugLine};
 
 use std::str;
 use text_lines::{BadLine, is_skipped, next_word, word_number};
+
+/// Which lines a conversation has.
+#[derive(Clone, Copy, Debug, PartialEq, Eq)]
+pub enum Dialect {
+    /// Those of `paged debug`.
+    Plain,
+    /// Those and `run`, `end` and `live`.
+    Fuller,
+}
 
 /// What a line asks of a debugger.
 #[derive(Clone, Copy, Debug, PartialEq, Eq)]
@@ -26,15 +35,21 @@ pub enum DebugLine {
     Regs { hart: u32 },
     /// Show so many bytes from an address on.
     Mem { address: u32, length: u32 },
+    /// The same as `Go`, with the harts told of the last step and of the next.
+    Run { limit: u32 },
+    /// Show how the process ended.
+    End,
+    /// Show whether a hart is live.
+    Live { hart: u32 },
     /// End the conversation.
     Quit,
 }
 
 /// What a line asks for, if it is not skipped. A skipped line has to be UTF-8, as all lines.
-pub fn debug_line(line: &[u8]) -> Result<Option<DebugLine>, BadLine>
+pub fn debug_line(dialect: Dialect, line: &[u8]) -> Result<Option<DebugLine>, BadLine>
     ensures skipped { result ≡ Ok None ↔ (IsSkipped line.now × IsUtf8 line.now) }
-    ensures asked { IfOk result (λ found. IfSome found (λ asked. AsksFor asked line.now)) }
-    ensures bad { IsErr result → (asked : DebugLine) → ¬ AsksFor asked line.now }
+    ensures asked { IfOk result (λ found. IfSome found (λ asked. AsksFor dialect asked line.now)) }
+    ensures bad { IsErr result → (asked : DebugLine) → ¬ AsksFor dialect asked line.now }
 {
     if is_skipped(line) {
         return if is_utf8(line) {
@@ -46,7 +61,7 @@ pub fn debug_line(line: &[u8]) -> Result<Option<DebugLine>, BadLine>
     let Some((name, rest)) = next_word(line) else {
         return Err(BadLine);
     };
-    match line_with(name, rest) {
+    match line_with(dialect, name, rest) {
         Some(asked) => Ok(Some(asked)),
         None => Err(BadLine),
     }
@@ -59,40 +74,60 @@ fn is_utf8(line: &[u8]) -> bool
 }
 
 /// What a name asks for with the words behind it.
-fn line_with(name: &[u8], rest: &[u8]) -> Option<DebugLine>
-    ensures found { IfSome result (λ asked. WritesLine asked (name.now ∷ words_of rest.now)) }
+fn line_with(dialect: Dialect, name: &[u8], rest: &[u8]) -> Option<DebugLine>
+    ensures found { IfSome result (λ asked.
+        WritesLine dialect asked (name.now ∷ words_of rest.now)) }
     ensures none { result ≡ None → (asked : DebugLine) →
-        ¬ WritesLine asked (name.now ∷ words_of rest.now) }
+        ¬ WritesLine dialect asked (name.now ∷ words_of rest.now) }
 {
     let Some((first, rest)) = next_word(rest) else {
-        return line_alone(name);
+        return line_alone(dialect, name);
     };
     let Some((second, rest)) = next_word(rest) else {
-        return line_of_one(name, first);
+        return line_of_one(dialect, name, first);
     };
     if next_word(rest).is_some() {
         return None;
     }
-    line_of_two(name, first, second)
+    line_of_two(dialect, name, first, second)
 }
 
 /// What one word asks for.
-fn line_alone(name: &[u8]) -> Option<DebugLine>
-    ensures found { IfSome result (λ asked. WritesLine asked (name.now ∷ [])) }
-    ensures none { result ≡ None → (asked : DebugLine) → ¬ WritesLine asked (name.now ∷ []) }
+fn line_alone(dialect: Dialect, name: &[u8]) -> Option<DebugLine>
+    ensures found { IfSome result (λ asked. WritesLine dialect asked (name.now ∷ [])) }
+    ensures none { result ≡ None → (asked : DebugLine) →
+        ¬ WritesLine dialect asked (name.now ∷ []) }
 {
     if name == b"quit".as_slice() {
         Some(DebugLine::Quit)
     } else {
-        None
+        fuller_word(dialect, name)
+    }
+}
+
+/// What one word asks for beyond the plain lines.
+fn fuller_word(dialect: Dialect, name: &[u8]) -> Option<DebugLine>
+    ensures found { IfSome result (λ asked. WritesWord dialect asked name.now) }
+    ensures none { result ≡ None → (asked : DebugLine) → ¬ WritesWord dialect asked name.now }
+{
+    match dialect {
+        Dialect::Plain => None,
+        Dialect::Fuller => {
+            if name == b"end".as_slice() {
+                Some(DebugLine::End)
+            } else {
+                None
+            }
+        }
     }
 }
 
 /// What a name and a number ask for.
-fn line_of_one(name: &[u8], first: &[u8]) -> Option<DebugLine>
-    ensures found { IfSome result (λ asked. WritesLine asked (name.now ∷ first.now ∷ [])) }
+fn line_of_one(dialect: Dialect, name: &[u8], first: &[u8]) -> Option<DebugLine>
+    ensures found { IfSome result (λ asked.
+        WritesLine dialect asked (name.now ∷ first.now ∷ [])) }
     ensures none { result ≡ None → (asked : DebugLine) →
-        ¬ WritesLine asked (name.now ∷ first.now ∷ []) }
+        ¬ WritesLine dialect asked (name.now ∷ first.now ∷ []) }
 {
     let number = word_number(first)?;
     if name == b"break".as_slice() {
@@ -106,16 +141,36 @@ fn line_of_one(name: &[u8], first: &[u8]) -> Option<DebugLine>
     } else if name == b"regs".as_slice() {
         Some(DebugLine::Regs { hart: number })
     } else {
-        None
+        fuller_line(dialect, name, number)
+    }
+}
+
+/// What a name and a number ask for beyond the plain lines.
+fn fuller_line(dialect: Dialect, name: &[u8], number: u32) -> Option<DebugLine>
+    ensures found { IfSome result (λ asked. WritesFuller dialect asked name.now number) }
+    ensures none { result ≡ None → (asked : DebugLine) →
+        ¬ WritesFuller dialect asked name.now number }
+{
+    match dialect {
+        Dialect::Plain => None,
+        Dialect::Fuller => {
+            if name == b"run".as_slice() {
+                Some(DebugLine::Run { limit: number })
+            } else if name == b"live".as_slice() {
+                Some(DebugLine::Live { hart: number })
+            } else {
+                None
+            }
+        }
     }
 }
 
 /// What a name and two numbers ask for.
-fn line_of_two(name: &[u8], first: &[u8], second: &[u8]) -> Option<DebugLine>
-    ensures found { IfSome result (λ asked. WritesLine asked (name.now ∷ first.now ∷ second.now ∷
-        [])) }
+fn line_of_two(dialect: Dialect, name: &[u8], first: &[u8], second: &[u8]) -> Option<DebugLine>
+    ensures found { IfSome result (λ asked.
+        WritesLine dialect asked (name.now ∷ first.now ∷ second.now ∷ [])) }
     ensures none { result ≡ None → (asked : DebugLine) →
-        ¬ WritesLine asked (name.now ∷ first.now ∷ second.now ∷ []) }
+        ¬ WritesLine dialect asked (name.now ∷ first.now ∷ second.now ∷ []) }
 {
     let address = word_number(first)?;
     let length = word_number(second)?;

@@ -3,6 +3,7 @@
 use crate::hexadecimal::{HexByte, HexWord};
 use crate::reply::DebugReply;
 use debug_core::{DebugStep, Why};
+use process_text::Ending;
 use rv_exec::Regs;
 use std::fmt;
 
@@ -25,6 +26,22 @@ impl fmt::Display for DebugReply {
                 };
                 write!(f, "{stop} after {steps}")
             }
+            DebugReply::Told {
+                why,
+                last,
+                turn,
+                steps,
+            } => {
+                let stop = ToldStop(*why);
+                write!(f, "{stop} last {last} turn {turn} after {steps}")
+            }
+            DebugReply::Ending(None) => f.write_str("goes on"),
+            DebugReply::Ending(Some(end)) => {
+                let ending = Ending(*end);
+                write!(f, "{ending}")
+            }
+            DebugReply::Live(true) => f.write_str("live"),
+            DebugReply::Live(false) => f.write_str("not live"),
             DebugReply::Registers(regs) => {
                 let lines = RegisterLines(regs);
                 write!(f, "{lines}")
@@ -60,6 +77,27 @@ impl fmt::Display for Stop {
             Why::Ended => f.write_str("ended"),
             Why::Watch(number) => write!(f, "watch {number}"),
             Why::Break(number) => write!(f, "break {number} hart {turn}"),
+            Why::Limit => f.write_str("limit"),
+            Why::Absent => f.write_str("absent"),
+        }
+    }
+}
+
+/// Why a debugger stopped, with no hart.
+#[derive(Clone, Copy)]
+struct ToldStop(Why);
+
+impl fmt::Display for ToldStop {
+    ghost use Rattle.std.specs.Prelude.{Some};
+    ghost use Rattle.debug_session.specs.ReplyText.{told_why};
+
+    ghost output = { λ stop. Some (told_why stop.0) };
+
+    fn fmt<W: fmt::Write>(&self, f: &mut fmt::Formatter<W>) -> fmt::Result {
+        match self.0 {
+            Why::Ended => f.write_str("ended"),
+            Why::Watch(number) => write!(f, "watch {number}"),
+            Why::Break(number) => write!(f, "break {number}"),
             Why::Limit => f.write_str("limit"),
             Why::Absent => f.write_str("absent"),
         }

@@ -6,7 +6,7 @@ ghost use Rattle.debug_session.specs.ReplyText.{reply_text};
 ghost use Rattle.debug_session.specs.Conversation.{IsAnswered, TakesTurn};
 
 use crate::answers::answer;
-use crate::lines::debug_line;
+use crate::lines::{Dialect, debug_line};
 use crate::reply::DebugReply;
 use debug_core::{Debugger, Target};
 use std::alloc::Global;
@@ -27,16 +27,17 @@ pub(crate) enum Turn {
 /// Does what a line asks for, and writes the reply at once.
 pub(crate) fn take_turn<T: Target, O: Write>(
     alloc: Global,
+    dialect: Dialect,
     debugger: &mut Debugger<T>,
     line: &[u8],
     out: &mut O,
 ) -> io::Result<Turn>
-    ensures taken { IfOk result (λ turn. TakesTurn T.shown T.limits turn line.now debugger.old
-        (O.contents out.old) debugger.new (O.contents out.new)) }
+    ensures taken { IfOk result (λ turn. TakesTurn dialect T.shown T.limits turn line.now
+        debugger.old (O.contents out.old) debugger.new (O.contents out.new)) }
     ensures err { OnErr result ((told : List ℕ) ×
-        IsAnswered T.shown T.limits line.now debugger.old told debugger.new) }
+        IsAnswered dialect T.shown T.limits line.now debugger.old told debugger.new) }
 {
-    let Ok(asked) = debug_line(line) else {
+    let Ok(asked) = debug_line(dialect, line) else {
         return Ok(Turn::Bad);
     };
     let Some(asked) = asked else {

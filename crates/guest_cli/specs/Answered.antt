@@ -13,14 +13,16 @@ use Rattle.guest_cli.specs.TurnRuns.{TellsTurns}
 abbrev pub AreWhole : Option (List ℕ) → List ℕ → Type 0
 AreWhole known bytes = IfSome known (λ all. bytes ≡ all)
 
--- a program ended so behind so many steps, with what was written: on flat memory after a run by turns, up to a limit; on frames as a run of
--- the flat machine does by some order of harts
-abbrev pub TellsRun : Option ℕ → ℕ → Start → Option (List ℕ) → Option (List ℕ) → End → ℕ → Type 0
-TellsRun None limit start old new end steps = (process : Process) × TellsTurns limit (opening start.image start.input) process old new end steps
-TellsRun (Some frames) limit start old new end steps = TellsFlatRun start old new end steps
+-- `runs` tells what a machine of so many frames may make of a program, up to so many steps: the ending, and behind how many steps
+module _ (runs : ℕ → ℕ → Start → End → ℕ → Type 0) where
+  -- a program ended so behind so many steps, with what was written: on flat memory after a run by turns, up to a limit; on frames as a run of
+  -- the flat machine does by some order of harts, up to the same limit, and as a machine of so many frames makes of it
+  abbrev pub TellsRun : Option ℕ → ℕ → Start → Option (List ℕ) → Option (List ℕ) → End → ℕ → Type 0
+  TellsRun None limit start old new end steps = (process : Process) × TellsTurns limit (opening start.image start.input) process old new end steps
+  TellsRun (Some frames) limit start old new end steps = TellsFlatRun limit start old new end steps × runs frames limit start end steps
 
 -- `gives` tells, of a name, the bytes that a file of it may be found to hold
-module _ (gives : List ℕ → List ℕ → Type 0) where
+module _ (gives : List ℕ → List ℕ → Type 0) (runs : ℕ → ℕ → Start → End → ℕ → Type 0) where
   -- this status is that of the ending of the named image's program on the whole input
   pub record AnswersRun (name : List ℕ) (frames : Option ℕ) (limit : ℕ) (known old new : Option (List ℕ)) (status : ℕ) : Type 0 where
     pub image : ImageContent
@@ -29,5 +31,5 @@ module _ (gives : List ℕ → List ℕ → Type 0) where
     pub input_whole : AreWhole known input
     pub end : End
     pub steps : ℕ
-    pub ran : TellsRun frames limit (start_of image input) old new end steps
+    pub ran : TellsRun runs frames limit (start_of image input) old new end steps
     pub status_is : status ≡ guest_status end

@@ -1,10 +1,11 @@
 -- What a run of a program comes to, by the flat machine.
-use Rattle.std.specs.Prelude.{◌≡◌, ℕ, List, Option, Some, None, length}
+use Rattle.std.specs.Prelude.{◌≡◌, ℕ, ◌≤◌, List, Option, Some, None, length}
 use Rattle.std.specs.Io.KnownBytes.{Appends}
 use Rattle.elf_image.specs.Start.{Start}
 use Rattle.flat_machine.specs.Process.{Process, opening, flat_run}
 use Rattle.flat_machine.specs.declared.end.End.{End}
 use Rattle.flat_machine.specs.declared.end.End.TheVariants.{Exited, Trapped, Killed}
+use Rattle.flat_machine.specs.declared.end.KillCause.TheVariants.{Limit}
 
 -- a program ended as its flat process did, which goes on where the machine ended the program
 abbrev pub EndsLike : End → Option End → Type 0
@@ -13,11 +14,13 @@ EndsLike (Trapped hart cause pc value) own = own ≡ Some (Trapped hart cause pc
 EndsLike (Killed cause) own = own ≡ None
 
 -- this ending behind so many steps, with what was written, is that of a flat run: some order of harts with as many steps leads to a flat process
--- with that output and that ending
-pub record TellsFlatRun (start : Start) (old new : Option (List ℕ)) (end : End) (steps : ℕ) : Type 0 where
+-- with that output and that ending; no more steps are done than are allowed, and for the limit a program is ended behind as many
+pub record TellsFlatRun (limit : ℕ) (start : Start) (old new : Option (List ℕ)) (end : End) (steps : ℕ) : Type 0 where
   pub harts : List ℕ
   pub flat : Process
   pub ran : flat_run harts (opening start.image start.input) ≡ Some flat
   pub counted : steps ≡ length harts
   pub written : Appends old new flat.environment.output
   pub ended : EndsLike end flat.ending
+  pub within : steps ≤ limit
+  pub limited : end ≡ Killed Limit → steps ≡ limit

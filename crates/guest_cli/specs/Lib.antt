@@ -1,4 +1,5 @@
 pub mod Answered
+pub mod BegunSteps
 pub mod CountedRuns
 pub mod FlatRuns
 pub mod GuestStatus

@@ -1,5 +1,8 @@
 //! A program whose steps are to be told.
 
+ghost use Rattle.std.specs.Prelude.{IfOk};
+ghost use Rattle.guest_cli.specs.BegunSteps.{BeginsSteps};
+
 use crate::input::read_whole;
 use flat_machine::FlatProcess;
 use guest_steps::StepString;
@@ -13,7 +16,10 @@ pub(crate) fn begin_steps<'a, R: Folder + AllocGlobal, I: Read + Drop>(
     image: &'a str,
     input: I,
     limit: u64,
-) -> Result<(StepString, Vec<u8>), Fault<'a>> {
+) -> Result<(StepString, Vec<u8>), Fault<'a>>
+    ensures { IfOk result (λ begun. BeginsSteps R.gives image.now limit (I.remaining input)
+        begun.0 begun.1.items) }
+{
     let alloc = rt.alloc();
     let program = read_image(rt, image)?;
     let file = rt.read(image)?;

@@ -1,83 +1,99 @@
 //! A profile in the format of callgrind ("Callgrind Format Specification" of Valgrind's manual), by instructions.
 
-use crate::functions::write_place;
-use crate::profile_tables::{CallRow, Tables, function_of};
-use elf_symbols::Symbols;
+use crate::function_names::{FunctionNames, INNER};
+use crate::profile_tables::{CallRow, NOTHING, Row, Sums, Tables};
 use std::io;
 use std::io::Write;
 
-/// Writes the counts of each instruction below its function, and the calls of each.
+/// The first lines.
+const HEAD: &[u8] = b"# callgrind format\nversion: 1\ncreator: guest profile\n";
+
+/// What the numbers of a line are.
+const EVENTS: &[u8] =
+    b"positions: instr line\nevent: Ir : Steps\nevent: Dr : Loads\nevent: Dw : Stores\n\
+event: Bc : Branches\nevent: Bt : Branches taken\nevents: Ir Dr Dw Bc Bt\n";
+
+/// Writes the counts of each instruction below its function, and the calls of each. What a function does in a call within a call of itself
+/// is of a function of its own, `NAME'2`, as callgrind has it.
 pub(crate) fn write_callgrind<O: Write>(
     image: &str,
     tables: &Tables,
-    symbols: &Symbols<'_>,
+    names: &FunctionNames<'_>,
     out: &mut O,
 ) -> io::Result<()> {
-    let total = tables.total;
-    let (steps, loads, stores) = (total.steps, total.loads, total.stores);
-    let (branches, taken) = (total.branches, total.taken);
-    writeln!(out, "# callgrind format")?;
-    writeln!(out, "version: 1")?;
-    writeln!(out, "creator: guest profile")?;
+    out.write_all(HEAD)?;
     writeln!(out, "cmd: {image}")?;
-    writeln!(out, "positions: instr line")?;
-    writeln!(out, "event: Ir : Steps")?;
-    writeln!(out, "event: Dr : Loads")?;
-    writeln!(out, "event: Dw : Stores")?;
-    writeln!(out, "event: Bc : Branches")?;
-    writeln!(out, "event: Bt : Branches taken")?;
-    writeln!(out, "events: Ir Dr Dw Bc Bt")?;
-    writeln!(out, "summary: {steps} {loads} {stores} {branches} {taken}")?;
-    writeln!(out)?;
-    writeln!(out, "ob={image}")?;
-    writeln!(out, "fl={image}")?;
-    write_insns(tables, symbols, out)?;
-    write_calls(tables, symbols, out)
+    out.write_all(EVENTS)?;
+    write!(out, "summary: ")?;
+    write_sums(tables.total, out)?;
+    writeln!(out, "\nob={image}\nfl={image}")?;
+    write_insns(tables, names, 1, out)?;
+    write_insns(tables, names, INNER, out)?;
+    for row in tables.calls.as_slice() {
+        write_call(row, names, out)?;
+    }
+    Ok(())
 }
 
-fn write_insns<O: Write>(tables: &Tables, symbols: &Symbols<'_>, out: &mut O) -> io::Result<()> {
+/// Writes the counts of a level.
+fn write_insns<O: Write>(
+    tables: &Tables,
+    names: &FunctionNames<'_>,
+    level: u32,
+    out: &mut O,
+) -> io::Result<()> {
     let mut current = None;
     for row in tables.insns.as_slice() {
-        let function = function_of(row.address, symbols);
-        if current != Some(function) {
-            write_function("fn", function, symbols, out)?;
-            current = Some(function);
+        let function = names.function_of(row.address);
+        let sums = sums_at(row, level, names.has_inner(function));
+        if sums.steps > 0 {
+            if current != Some(function) {
+                write_function("fn", function, level, names, out)?;
+                current = Some(function);
+            }
+            let address = row.address;
+            write!(out, "0x{address:x} 0 ")?;
+            write_sums(sums, out)?;
         }
-        let (address, sums) = (row.address, row.sums);
-        let (steps, loads, stores) = (sums.steps, sums.loads, sums.stores);
-        let (branches, taken) = (sums.branches, sums.taken);
-        writeln!(
-            out,
-            "0x{address:x} 0 {steps} {loads} {stores} {branches} {taken}"
-        )?;
     }
     Ok(())
 }
 
-fn write_calls<O: Write>(tables: &Tables, symbols: &Symbols<'_>, out: &mut O) -> io::Result<()> {
-    for row in tables.calls.as_slice() {
-        write_call(row, symbols, out)?;
+/// What of an instruction's counts is of a level. All is of the first one where its function was not called within itself.
+fn sums_at(row: &Row, level: u32, has_inner: bool) -> Sums {
+    let inner = if has_inner { row.inner } else { NOTHING };
+    if level == INNER {
+        inner
+    } else {
+        row.sums.without(inner)
     }
-    Ok(())
+}
+
+fn write_sums<O: Write>(sums: Sums, out: &mut O) -> io::Result<()> {
+    let (steps, loads, stores) = (sums.steps, sums.loads, sums.stores);
+    let (branches, taken) = (sums.branches, sums.taken);
+    writeln!(out, "{steps} {loads} {stores} {branches} {taken}")
 }
 
 /// A call: whose it is, what is called and how often, and the steps that were done inside.
-fn write_call<O: Write>(row: &CallRow, symbols: &Symbols<'_>, out: &mut O) -> io::Result<()> {
+fn write_call<O: Write>(row: &CallRow, names: &FunctionNames<'_>, out: &mut O) -> io::Result<()> {
     let (site, callee) = (row.call.site, row.call.callee);
     let (times, inside) = (row.times, row.inside);
-    write_function("fn", function_of(site, symbols), symbols, out)?;
-    write_function("cfn", function_of(callee, symbols), symbols, out)?;
+    let caller = names.function_of(site);
+    write_function("fn", caller, names.caller_level(row.call), names, out)?;
+    write_function("cfn", callee, row.call.level, names, out)?;
     writeln!(out, "calls={times} 0x{callee:x} 0")?;
     writeln!(out, "0x{site:x} 0 {inside} 0 0 0 0")
 }
 
 fn write_function<O: Write>(
     key: &str,
-    address: u32,
-    symbols: &Symbols<'_>,
+    function: u32,
+    level: u32,
+    names: &FunctionNames<'_>,
     out: &mut O,
 ) -> io::Result<()> {
     write!(out, "{key}=")?;
-    write_place(address, symbols, out)?;
+    names.write_name(function, level, out)?;
     writeln!(out)
 }

@@ -7,54 +7,62 @@ pub(crate) fn guest<'a>(alloc: Global) -> Result<Command<'a>, AllocError> {
     let app = Command::new(alloc, "guest")
         .no_binary_name(true)
         .subcommand_required(true);
-    let app = app.subcommand(run(alloc)?)?;
-    let app = app.subcommand(trace(alloc)?)?;
-    let app = app.subcommand(profile(alloc)?)?;
-    app.subcommand(debug(alloc)?)
+    let app = with(Ok(app), run(alloc));
+    let app = with(app, trace(alloc));
+    let app = with(app, profile(alloc));
+    with(app, debug(alloc))
+}
+
+/// The program with another command, where both could be made.
+fn with<'a>(
+    app: Result<Command<'a>, AllocError>,
+    command: Result<Command<'a>, AllocError>,
+) -> Result<Command<'a>, AllocError> {
+    let app = app?;
+    app.subcommand(command?)
 }
 
 fn run<'a>(alloc: Global) -> Result<Command<'a>, AllocError> {
-    image(
-        alloc,
-        Command::new(alloc, "run")
-            .arg(option(alloc, "frames"))?
-            .arg(option(alloc, "limit"))?,
-    )
+    let command = Ok(Command::new(alloc, "run"));
+    let command = with_arg(command, option(alloc, "frames"));
+    image(alloc, with_arg(command, option(alloc, "limit")))
 }
 
 fn trace<'a>(alloc: Global) -> Result<Command<'a>, AllocError> {
-    image(
-        alloc,
-        Command::new(alloc, "trace")
-            .arg(option(alloc, "from"))?
-            .arg(option(alloc, "count"))?
-            .arg(option(alloc, "hart"))?
-            .arg(flag(alloc, "functions"))?,
-    )
+    let command = Ok(Command::new(alloc, "trace"));
+    let command = with_arg(command, option(alloc, "from"));
+    let command = with_arg(command, option(alloc, "count"));
+    let command = with_arg(command, option(alloc, "hart"));
+    image(alloc, with_arg(command, flag(alloc, "functions")))
 }
 
 fn profile<'a>(alloc: Global) -> Result<Command<'a>, AllocError> {
-    image(
-        alloc,
-        Command::new(alloc, "profile")
-            .arg(option(alloc, "limit"))?
-            .arg(option(alloc, "lines"))?
-            .arg(flag(alloc, "callgrind"))?,
-    )
+    let command = Ok(Command::new(alloc, "profile"));
+    let command = with_arg(command, option(alloc, "limit"));
+    let command = with_arg(command, option(alloc, "lines"));
+    image(alloc, with_arg(command, flag(alloc, "callgrind")))
 }
 
 fn debug<'a>(alloc: Global) -> Result<Command<'a>, AllocError> {
-    image(
-        alloc,
-        Command::new(alloc, "debug")
-            .arg(option(alloc, "frames"))?
-            .arg(option(alloc, "input"))?,
-    )
+    let command = Ok(Command::new(alloc, "debug"));
+    let command = with_arg(command, option(alloc, "frames"));
+    image(alloc, with_arg(command, option(alloc, "input")))
 }
 
 /// The command with the image that it runs.
-fn image<'a>(alloc: Global, command: Command<'a>) -> Result<Command<'a>, AllocError> {
-    command.arg(Arg::new(alloc, "image").required(true))
+fn image<'a>(
+    alloc: Global,
+    command: Result<Command<'a>, AllocError>,
+) -> Result<Command<'a>, AllocError> {
+    with_arg(command, Arg::new(alloc, "image").required(true))
+}
+
+/// The command with another argument, where it could be made.
+fn with_arg<'a>(
+    command: Result<Command<'a>, AllocError>,
+    arg: Arg<'a>,
+) -> Result<Command<'a>, AllocError> {
+    command?.arg(arg)
 }
 
 /// An option with a value.

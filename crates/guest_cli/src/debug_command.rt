@@ -3,7 +3,7 @@
 use crate::frame_machine::FrameMachine;
 use crate::request::DebugRequest;
 use debug_core::Debugger;
-use debug_session::{SessionFault, converse};
+use debug_session::{Dialect, SessionFault, converse};
 use elf_image::Image;
 use flat_machine::FlatProcess;
 use image_files::{Fault, Folder, read_image, read_input};
@@ -49,7 +49,7 @@ fn converse_flat<I: Read + Drop, O: Write>(
         return Err(SessionFault::NoMemory);
     };
     let mut debugger = Debugger::new(process);
-    converse(alloc, &mut debugger, lines, out)
+    converse(alloc, Dialect::Fuller, &mut debugger, lines, out)
 }
 
 /// The fault of a conversation as one of the command.

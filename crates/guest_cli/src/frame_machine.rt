@@ -15,7 +15,12 @@ use std::io::{Read, Write};
 pub trait FrameMachine {
     ghost use Rattle.std.specs.Prelude.{ℕ, List, Option, Result};
     ghost use Rattle.elf_image.specs.Image.{ImageContent};
+    ghost use Rattle.elf_image.specs.Start.{Start};
+    ghost use Rattle.flat_machine.specs.declared.end.End.{End};
     ghost use Rattle.debug_session.specs.declared.conversation.SessionFault.{SessionFault};
+
+    /// What a machine of so many frames may make of a program, up to so many steps: the ending, and behind how many steps.
+    ghost runs: { ℕ → ℕ → Start → End → ℕ → Type 0 };
 
     /// What a debugger on so many frames, of an image on an input, answers lines with: with these lines to read, and this output before
     /// and behind, it ends so.
@@ -23,7 +28,8 @@ pub trait FrameMachine {
         → Result (Unit {0}) SessionFault → Type 0 };
 
     /// Runs an image on an input on so many frames, 4 to 4096, up to so many steps, writes what the program wrote once it has ended, and
-    /// tells how it ended and after how many steps: a run of the flat machine says the same.
+    /// tells how it ended and after how many steps: a run of the flat machine says the same, and for the limit it is ended behind as many
+    /// steps as are allowed.
     fn run<'a, W: Write>(
         &self,
         alloc: Global,
@@ -33,8 +39,10 @@ pub trait FrameMachine {
         limit: u64,
         out: &mut W,
     ) -> Result<(End, u64), Fault<'a>>
-        ensures { IfOk result (λ done. TellsFlatRun (start_of image input.items)
-            (W.contents out.old) (W.contents out.new) done.0 done.1) };
+        ensures flat { IfOk result (λ done. TellsFlatRun limit (start_of image input.items)
+            (W.contents out.old) (W.contents out.new) done.0 done.1) }
+        ensures runs { IfOk result (λ done. runs frames limit (start_of image input.items)
+            done.0 done.1) };
 
     /// Answers lines with a debugger of an image on an input, on so many frames.
     fn debug<I: Read + Drop, W: Write>(

@@ -1,44 +1,37 @@
 //! Calls and returns as lines of a trace.
 
 use elf_symbols::Symbols;
+use guest_profile::Depths;
 use guest_steps::{Flow, ToldStep, flow_of};
 use rv_isa::decode;
+use std::alloc::AllocError;
 use std::io;
 use std::io::Write;
 
-/// How many harts a process may have.
-const MOST_HARTS: usize = 8;
-
-/// How deep in calls each hart stands.
-#[derive(Clone, Copy, Debug)]
-pub(crate) struct Depths {
-    depths: [u32; MOST_HARTS],
+/// How deep a step stands: that of a call where the caller stands, that of a return where it comes back to. `None` for other steps.
+pub(crate) fn depth_of(
+    depths: &mut Depths,
+    told: &ToldStep,
+) -> Result<Option<(Flow, usize)>, AllocError> {
+    let flow = flow_of_step(told);
+    let before = depths.depth(told.hart);
+    depths.follow(told, flow)?;
+    Ok(match flow {
+        Flow::Call => Some((flow, before)),
+        Flow::Return => Some((flow, depths.depth(told.hart))),
+        Flow::Branch => None,
+        Flow::Other => None,
+    })
 }
 
-impl Depths {
-    pub(crate) fn new() -> Self {
-        Depths {
-            depths: [0; MOST_HARTS],
-        }
-    }
-
-    /// How deep a step stands: that of a call where the caller stands, that of a return where it comes back to. `None` for other steps.
-    pub(crate) fn depth_of(&mut self, told: &ToldStep) -> Option<(Flow, u32)> {
-        let insn = decode(told.word.ok()?)?;
-        let depth = self.depths.get_mut(told.hart as usize)?;
-        match flow_of(insn) {
-            Flow::Call => {
-                let here = *depth;
-                *depth = here.saturating_add(1);
-                Some((Flow::Call, here))
-            }
-            Flow::Return => {
-                *depth = depth.saturating_sub(1);
-                Some((Flow::Return, *depth))
-            }
-            Flow::Branch => None,
-            Flow::Other => None,
-        }
+/// What a step is for the flow of the program.
+fn flow_of_step(told: &ToldStep) -> Flow {
+    let Ok(word) = told.word else {
+        return Flow::Other;
+    };
+    match decode(word) {
+        Some(insn) => flow_of(insn),
+        None => Flow::Other,
     }
 }
 
@@ -48,7 +41,7 @@ pub(crate) fn write_flow<O: Write>(
     number: u64,
     told: &ToldStep,
     flow: Flow,
-    depth: u32,
+    depth: usize,
     symbols: &Symbols<'_>,
     out: &mut O,
 ) -> io::Result<()> {

@@ -6,6 +6,7 @@ mod callgrind;
 mod commands;
 mod debug_command;
 mod frame_machine;
+mod function_names;
 mod functions;
 mod input;
 mod profile_command;
@@ -18,6 +19,7 @@ mod run_command;
 mod step_line;
 mod told_end;
 mod trace_command;
+mod wrong;
 
 pub use frame_machine::FrameMachine;
 pub use program::run_guest;

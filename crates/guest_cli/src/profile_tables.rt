@@ -1,6 +1,6 @@
 //! Counts by instruction, by function and by call, in the order in which they are written.
 
-use elf_symbols::Symbols;
+use crate::function_names::FunctionNames;
 use guest_profile::{CallSite, InsnTally, Profile};
 use guest_steps::{Flow, flow_of};
 use rv_isa::{Insn, decode};
@@ -24,6 +24,8 @@ pub(crate) struct Row {
     /// Of an instruction its own address, of a function that at which it begins.
     pub(crate) address: u32,
     pub(crate) word: u32,
+    /// Of the sums what is of calls within a call of the same function.
+    pub(crate) inner: Sums,
 }
 
 /// A call with its counts: ordered by the steps inside.
@@ -48,7 +50,8 @@ pub(crate) struct Tables {
     pub(crate) calls: Vec<CallRow>,
 }
 
-const NOTHING: Sums = Sums {
+/// No counts.
+pub(crate) const NOTHING: Sums = Sums {
     steps: 0,
     loads: 0,
     stores: 0,
@@ -57,28 +60,28 @@ const NOTHING: Sums = Sums {
 };
 
 impl Sums {
-    /// The counts of an instruction.
-    fn of(counts: InsnTally) -> Self {
+    /// Of an instruction's word that ran so often, and went on elsewhere than behind it so often.
+    fn of(word: u32, steps: u64, taken: u64) -> Self {
         let mut sums = NOTHING;
-        sums.steps = counts.steps;
-        let Some(insn) = decode(counts.word) else {
+        sums.steps = steps;
+        let Some(insn) = decode(word) else {
             return sums;
         };
         let kept = insn;
         match kept {
-            Insn::Load { .. } => sums.loads = counts.steps,
-            Insn::LoadReserved { .. } => sums.loads = counts.steps,
-            Insn::Store { .. } => sums.stores = counts.steps,
-            Insn::StoreConditional { .. } => sums.stores = counts.steps,
+            Insn::Load { .. } => sums.loads = steps,
+            Insn::LoadReserved { .. } => sums.loads = steps,
+            Insn::Store { .. } => sums.stores = steps,
+            Insn::StoreConditional { .. } => sums.stores = steps,
             Insn::Amo { .. } => {
-                sums.loads = counts.steps;
-                sums.stores = counts.steps;
+                sums.loads = steps;
+                sums.stores = steps;
             }
             _ => {}
         }
         if flow_of(insn) == Flow::Branch {
-            sums.branches = counts.steps;
-            sums.taken = counts.taken;
+            sums.branches = steps;
+            sums.taken = taken;
         }
         sums
     }
@@ -92,13 +95,28 @@ impl Sums {
             taken: self.taken.saturating_add(other.taken),
         }
     }
+
+    pub(crate) fn without(self, other: Sums) -> Self {
+        Sums {
+            steps: self.steps.saturating_sub(other.steps),
+            loads: self.loads.saturating_sub(other.loads),
+            stores: self.stores.saturating_sub(other.stores),
+            branches: self.branches.saturating_sub(other.branches),
+            taken: self.taken.saturating_sub(other.taken),
+        }
+    }
 }
 
-/// The address at which the function of an instruction begins; where no symbol tells it, the instruction's page.
-pub(crate) fn function_of(address: u32, symbols: &Symbols<'_>) -> u32 {
-    match symbols.nearest(address) {
-        Some(place) => place.address,
-        None => address - address % 4096,
+impl Row {
+    /// An instruction with its counts.
+    fn of(address: u32, counts: InsnTally) -> Self {
+        let word = counts.word;
+        Row {
+            sums: Sums::of(word, counts.steps, counts.taken),
+            address,
+            word,
+            inner: Sums::of(word, counts.inner_steps, counts.inner_taken),
+        }
     }
 }
 
@@ -106,37 +124,51 @@ impl Tables {
     pub(crate) fn of(
         alloc: Global,
         profile: &Profile,
-        symbols: &Symbols<'_>,
+        names: &FunctionNames<'_>,
     ) -> Result<Self, AllocError> {
         let insns = rows_of(alloc, profile)?;
-        let functions = functions_of(alloc, insns.as_slice(), symbols)?;
+        let functions = functions_of(alloc, insns.as_slice(), names)?;
         let calls = calls_of(alloc, profile)?;
-        let mut total = NOTHING;
-        for row in insns.as_slice() {
-            total = total.and(row.sums);
-        }
-        let mut hot_insns = insns.clone()?;
-        hot_insns.sort_unstable();
+        let hot_insns = sorted(insns.clone()?);
         Ok(Tables {
-            total,
+            total: total_of(insns.as_slice()),
             insns,
             hot_insns,
             functions,
             calls,
         })
     }
+
+    /// Where the functions begin that ran or were called, each once.
+    pub(crate) fn function_starts(&self, alloc: Global) -> Result<Vec<u32>, AllocError> {
+        let mut starts = Vec::new(alloc);
+        for row in self.functions.as_slice() {
+            starts.push(row.address).map_err(AllocError::from)?;
+        }
+        Ok(starts)
+    }
+}
+
+fn total_of(rows: &[Row]) -> Sums {
+    let mut total = NOTHING;
+    for row in rows {
+        total = total.and(row.sums);
+    }
+    total
+}
+
+/// Rows by rising steps.
+fn sorted(mut rows: Vec<Row>) -> Vec<Row> {
+    rows.sort_unstable();
+    rows
 }
 
 fn rows_of(alloc: Global, profile: &Profile) -> Result<Vec<Row>, AllocError> {
     let mut rows = Vec::new(alloc);
     for address in profile.insns().addresses(alloc)?.as_slice() {
         if let Some(counts) = profile.insns().at(*address) {
-            let row = Row {
-                sums: Sums::of(counts),
-                address: *address,
-                word: counts.word,
-            };
-            rows.push(row).map_err(AllocError::from)?;
+            rows.push(Row::of(*address, counts))
+                .map_err(AllocError::from)?;
         }
     }
     Ok(rows)
@@ -145,11 +177,11 @@ fn rows_of(alloc: Global, profile: &Profile) -> Result<Vec<Row>, AllocError> {
 fn functions_of(
     alloc: Global,
     insns: &[Row],
-    symbols: &Symbols<'_>,
+    names: &FunctionNames<'_>,
 ) -> Result<Vec<Row>, AllocError> {
     let mut sums: BTreeMap<u32, Sums> = BTreeMap::new(alloc);
     for row in insns {
-        let function = function_of(row.address, symbols);
+        let function = names.function_of(row.address);
         let before = match sums.get(&function) {
             Some(before) => *before,
             None => NOTHING,
@@ -163,11 +195,11 @@ fn functions_of(
             sums: *sums,
             address: *address,
             word: 0,
+            inner: NOTHING,
         };
         rows.push(row).map_err(AllocError::from)?;
     }
-    rows.sort_unstable();
-    Ok(rows)
+    Ok(sorted(rows))
 }
 
 fn calls_of(alloc: Global, profile: &Profile) -> Result<Vec<CallRow>, AllocError> {

@@ -1,8 +1,7 @@
 //! A profile as tables.
 
-use crate::functions::write_place;
+use crate::function_names::FunctionNames;
 use crate::profile_tables::{CallRow, Row, Sums, Tables};
-use elf_symbols::Symbols;
 use guest_profile::Profile;
 use rv_isa::decode;
 use std::io;
@@ -12,7 +11,7 @@ use std::io::Write;
 pub(crate) fn write_profile<O: Write>(
     profile: &Profile,
     tables: &Tables,
-    symbols: &Symbols<'_>,
+    names: &FunctionNames<'_>,
     rows: usize,
     out: &mut O,
 ) -> io::Result<()> {
@@ -23,12 +22,12 @@ pub(crate) fn write_profile<O: Write>(
         "       steps  share       loads      stores    branches       taken  function"
     )?;
     for row in tables.functions.iter().rev().take(rows) {
-        write_function(row, tables.total.steps, symbols, out)?;
+        write_function(row, tables.total.steps, names, out)?;
     }
     writeln!(out)?;
     writeln!(out, "       times       inside  call")?;
     for row in tables.calls.iter().rev().take(rows) {
-        write_call(row, symbols, out)?;
+        write_call(row, names, out)?;
     }
     writeln!(out)?;
     writeln!(
@@ -36,7 +35,7 @@ pub(crate) fn write_profile<O: Write>(
         "       steps  share       taken  address    word      text"
     )?;
     for row in tables.hot_insns.iter().rev().take(rows) {
-        write_insn(row, tables.total.steps, symbols, out)?;
+        write_insn(row, tables.total.steps, names, out)?;
     }
     Ok(())
 }
@@ -66,7 +65,7 @@ fn write_share<O: Write>(steps: u64, total: u64, out: &mut O) -> io::Result<()> 
 fn write_function<O: Write>(
     row: &Row,
     total: u64,
-    symbols: &Symbols<'_>,
+    names: &FunctionNames<'_>,
     out: &mut O,
 ) -> io::Result<()> {
     let sums: Sums = row.sums;
@@ -78,23 +77,23 @@ fn write_function<O: Write>(
         out,
         " {loads:>11} {stores:>11} {branches:>11} {taken:>11}  "
     )?;
-    write_place(row.address, symbols, out)?;
+    names.write_name(row.address, 1, out)?;
     writeln!(out)
 }
 
-fn write_call<O: Write>(row: &CallRow, symbols: &Symbols<'_>, out: &mut O) -> io::Result<()> {
+fn write_call<O: Write>(row: &CallRow, names: &FunctionNames<'_>, out: &mut O) -> io::Result<()> {
     let (times, inside) = (row.times, row.inside);
     write!(out, "{times:>12} {inside:>12}  ")?;
-    write_place(row.call.site, symbols, out)?;
+    names.write_place(row.call.site, names.caller_level(row.call), out)?;
     write!(out, " -> ")?;
-    write_place(row.call.callee, symbols, out)?;
+    names.write_name(row.call.callee, row.call.level, out)?;
     writeln!(out)
 }
 
 fn write_insn<O: Write>(
     row: &Row,
     total: u64,
-    symbols: &Symbols<'_>,
+    names: &FunctionNames<'_>,
     out: &mut O,
 ) -> io::Result<()> {
     let (steps, taken) = (row.sums.steps, row.sums.taken);
@@ -107,6 +106,6 @@ fn write_insn<O: Write>(
         None => write!(out, "no instruction")?,
     }
     write!(out, "  in ")?;
-    write_place(address, symbols, out)?;
+    names.write_place(address, 1, out)?;
     writeln!(out)
 }

@@ -7,6 +7,7 @@ use crate::request::Request;
 use crate::requests::read_request;
 use crate::run_command::run_run;
 use crate::trace_command::run_trace;
+use crate::wrong::Wrong;
 use image_files::{Fault, Folder};
 use std::convert::AsStr;
 use std::io::{Read, Write};
@@ -14,11 +15,11 @@ use std::io::{Read, Write};
 /// The exit status where a fault stopped the command.
 const FAULT: u8 = 2;
 
-/// The same of `run`, whose other statuses are the guest's.
+/// The same of `run` and `profile`, whose other statuses are the guest's.
 const FAULT_OF_RUN: u8 = 126;
 
-/// Runs the program on the words behind its name, and answers its exit status: that of the guest for `run`, else 0; for a fault, which
-/// is told on `err`, 2, and 126 for `run`.
+/// Runs the program on the words behind its name, and answers its exit status: that of the guest for `run` and `profile`, else 0; for a
+/// fault, which is told on `err`, 2, and 126 for these two.
 pub fn run_guest<R, M, S, I, O, E>(
     rt: &R,
     machine: &M,
@@ -35,16 +36,23 @@ where
     O: Write,
     E: Write,
 {
-    let is_run = words.first().is_some_and(|word| word.as_str() == "run");
-    let failed = if is_run { FAULT_OF_RUN } else { FAULT };
+    let failed = failed_status(words);
     let done = run_words(rt, machine, words, input, out, err);
     let flushed = out.flush();
     match done {
         Ok(status) => match flushed {
             Ok(()) => status,
-            Err(_) => fail(Fault::CannotWrite, failed, err),
+            Err(_) => fail(&Wrong::Fault(Fault::CannotWrite), failed, err),
         },
-        Err(fault) => fail(fault, failed, err),
+        Err(wrong) => fail(&wrong, failed, err),
+    }
+}
+
+/// The exit status where a fault stops the command of these words.
+fn failed_status<S: AsStr>(words: &[S]) -> u8 {
+    match words.first() {
+        Some(word) if matches!(word.as_str(), "run" | "profile") => FAULT_OF_RUN,
+        _ => FAULT,
     }
 }
 
@@ -55,7 +63,7 @@ fn run_words<'a, R, M, S, I, O, E>(
     input: I,
     out: &mut O,
     err: &mut E,
-) -> Result<u8, Fault<'a>>
+) -> Result<u8, Wrong<'a>>
 where
     R: Folder + AllocGlobal,
     M: FrameMachine,
@@ -64,17 +72,36 @@ where
     O: Write,
     E: Write,
 {
-    match read_request(rt.alloc(), words)? {
+    let request = read_request(rt.alloc(), words)?;
+    Ok(run_request(rt, machine, request, input, out, err)?)
+}
+
+fn run_request<'a, R, M, I, O, E>(
+    rt: &R,
+    machine: &M,
+    request: Request<'a>,
+    input: I,
+    out: &mut O,
+    err: &mut E,
+) -> Result<u8, Fault<'a>>
+where
+    R: Folder + AllocGlobal,
+    M: FrameMachine,
+    I: Read + Drop,
+    O: Write,
+    E: Write,
+{
+    match request {
         Request::Run(request) => run_run(rt, machine, request, input, out, err),
         Request::Trace(request) => run_trace(rt, request, input, out),
-        Request::Profile(request) => run_profile(rt, request, input, out),
+        Request::Profile(request) => run_profile(rt, request, input, out, err),
         Request::Debug(request) => run_debug(rt, machine, request, input, out),
     }
 }
 
-/// Tells a fault. Where that can't be written either, the status alone tells it.
-fn fail<E: Write>(fault: Fault<'_>, status: u8, err: &mut E) -> u8 {
-    let _ = writeln!(err, "guest: {fault}");
+/// Tells what is wrong. Where that can't be written either, the status alone tells it.
+fn fail<E: Write>(wrong: &Wrong<'_>, status: u8, err: &mut E) -> u8 {
+    let _ = writeln!(err, "guest: {wrong}");
     let _ = err.flush();
     status
 }

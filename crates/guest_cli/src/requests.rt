@@ -4,6 +4,7 @@ ghost use Rattle.std.specs.Prelude.{◌≤◌, IfOk, IfSome};
 
 use crate::commands::guest;
 use crate::request::{DebugRequest, ProfileRequest, Request, RunRequest, TraceRequest};
+use crate::wrong::{BadNumber, Wrong};
 use clap::ArgMatches;
 use clap::error::ErrorKind;
 use image_files::Fault;
@@ -18,75 +19,100 @@ const USUAL_ROWS: u32 = 20;
 pub(crate) fn read_request<'a, S: AsStr>(
     alloc: Global,
     words: &'a [S],
-) -> Result<Request<'a>, Fault<'a>> {
-    let matches = match guest(alloc)?.try_get_matches_from(words) {
-        Ok(matches) => matches,
-        Err(error) => {
-            return Err(match error.kind() {
-                ErrorKind::OutOfMemory => Fault::NoMemory,
-                _ => Fault::BadUsage,
-            });
-        }
-    };
+) -> Result<Request<'a>, Wrong<'a>> {
+    match guest(alloc)?.try_get_matches_from(words) {
+        Ok(matches) => Ok(request_of(&matches)?),
+        Err(error) => Err(wrong_words(alloc, &error)),
+    }
+}
+
+/// The request of words that name a command and what it takes.
+fn request_of<'a>(matches: &ArgMatches<'a>) -> Result<Request<'a>, BadNumber<'a>> {
     match matches.subcommand() {
         Some(("run", matches)) => Ok(Request::Run(run_request(matches)?)),
         Some(("trace", matches)) => Ok(Request::Trace(trace_request(matches)?)),
         Some(("profile", matches)) => Ok(Request::Profile(profile_request(matches)?)),
-        Some(("debug", matches)) => Ok(Request::Debug(debug_request(matches)?)),
-        _ => Err(Fault::BadUsage),
+        Some((_, matches)) => Ok(Request::Debug(debug_request(matches)?)),
+        None => Ok(Request::Debug(debug_request(matches)?)),
     }
 }
 
-fn run_request<'a>(matches: &ArgMatches<'a>) -> Result<RunRequest<'a>, Fault<'a>> {
+/// Why words are no request: the first line of what the library says, without its `error: `.
+fn wrong_words<'a>(alloc: Global, error: &clap::Error) -> Wrong<'a> {
+    if matches!(error.kind(), ErrorKind::OutOfMemory) {
+        return Wrong::Fault(Fault::NoMemory);
+    }
+    let Ok(text) = format!(in alloc; "{error}") else {
+        return Wrong::Fault(Fault::NoMemory);
+    };
+    let mut lines = text.lines();
+    let line = lines.next().unwrap_or("");
+    let reason = line.strip_prefix("error: ").unwrap_or(line);
+    // Behind a colon the next line names the argument.
+    let rest = if reason.ends_with(':') {
+        lines.next().unwrap_or("").trim_start()
+    } else {
+        ""
+    };
+    let space = if rest.is_empty() { "" } else { " " };
+    match format!(in alloc; "{reason}{space}{rest}") {
+        Ok(reason) => Wrong::Words(reason),
+        Err(_) => Wrong::Fault(Fault::NoMemory),
+    }
+}
+
+fn run_request<'a>(matches: &ArgMatches<'a>) -> Result<RunRequest<'a>, BadNumber<'a>> {
     Ok(RunRequest {
         frames: frames(matches)?,
         limit: steps_or(matches, "limit", u64::MAX)?,
-        image: image(matches)?,
+        image: image(matches),
     })
 }
 
-fn trace_request<'a>(matches: &ArgMatches<'a>) -> Result<TraceRequest<'a>, Fault<'a>> {
+fn trace_request<'a>(matches: &ArgMatches<'a>) -> Result<TraceRequest<'a>, BadNumber<'a>> {
     Ok(TraceRequest {
         from: steps_or(matches, "from", 1)?,
         count: steps_or(matches, "count", u64::MAX)?,
         hart: number(matches, "hart", 0, 7)?,
         is_of_functions: is_given(matches, "functions"),
-        image: image(matches)?,
+        image: image(matches),
     })
 }
 
-fn profile_request<'a>(matches: &ArgMatches<'a>) -> Result<ProfileRequest<'a>, Fault<'a>> {
+fn profile_request<'a>(matches: &ArgMatches<'a>) -> Result<ProfileRequest<'a>, BadNumber<'a>> {
     Ok(ProfileRequest {
         limit: steps_or(matches, "limit", u64::MAX)?,
         rows: number(matches, "lines", 1, u32::MAX)?.unwrap_or(USUAL_ROWS),
         is_callgrind: is_given(matches, "callgrind"),
-        image: image(matches)?,
+        image: image(matches),
     })
 }
 
-fn debug_request<'a>(matches: &ArgMatches<'a>) -> Result<DebugRequest<'a>, Fault<'a>> {
+fn debug_request<'a>(matches: &ArgMatches<'a>) -> Result<DebugRequest<'a>, BadNumber<'a>> {
     Ok(DebugRequest {
         frames: frames(matches)?,
         input: matches.get_str("input"),
-        image: image(matches)?,
+        image: image(matches),
     })
 }
 
-fn image<'a>(matches: &ArgMatches<'a>) -> Result<&'a str, Fault<'a>> {
-    match matches.get_str("image") {
-        Some(image) => Ok(image),
-        None => Err(Fault::BadUsage),
-    }
+/// The image's name, without which words make no request.
+fn image<'a>(matches: &ArgMatches<'a>) -> &'a str {
+    matches.get_str("image").unwrap_or("")
 }
 
-fn frames<'a>(matches: &ArgMatches<'a>) -> Result<Option<u32>, Fault<'a>>
+fn frames<'a>(matches: &ArgMatches<'a>) -> Result<Option<u32>, BadNumber<'a>>
     ensures { IfOk result (λ found. IfSome found (λ frames. (4 ≤ frames) × (frames ≤ 4096))) }
 {
     number(matches, "frames", 4, 4096)
 }
 
 /// The number of steps of an option, from 1 on, or what it is where the option is not given.
-fn steps_or<'a>(matches: &ArgMatches<'a>, name: &str, default: u64) -> Result<u64, Fault<'a>> {
+fn steps_or<'a>(
+    matches: &ArgMatches<'a>,
+    name: &'static str,
+    default: u64,
+) -> Result<u64, BadNumber<'a>> {
     match number(matches, name, 1, u32::MAX)? {
         Some(steps) => Ok(u64::from(steps)),
         None => Ok(default),
@@ -96,10 +122,10 @@ fn steps_or<'a>(matches: &ArgMatches<'a>, name: &str, default: u64) -> Result<u6
 /// The number of an option, from `least` to `most`, where it is given.
 fn number<'a>(
     matches: &ArgMatches<'a>,
-    name: &str,
+    name: &'static str,
     least: u32,
     most: u32,
-) -> Result<Option<u32>, Fault<'a>>
+) -> Result<Option<u32>, BadNumber<'a>>
     ensures { IfOk result (λ found. IfSome found (λ number. (least ≤ number) × (number ≤ most))) }
 {
     let Some(text) = matches.get_str(name) else {
@@ -107,7 +133,12 @@ fn number<'a>(
     };
     match numeral(text.as_bytes(), 10, most) {
         Some(number) if number >= least && number <= most => Ok(Some(number)),
-        _ => Err(Fault::BadUsage),
+        _ => Err(BadNumber {
+            name,
+            word: text,
+            least,
+            most,
+        }),
     }
 }
 

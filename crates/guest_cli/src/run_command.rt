@@ -3,7 +3,7 @@
 ghost use Rattle.std.specs.Prelude.{◌≡◌, ◌≤◌, None, true, IfOk, drop, length};
 ghost use Rattle.std.specs.Io.KnownBytes.{Appends};
 ghost use Rattle.flat_machine.specs.ByTurns.{first_turn};
-ghost use Rattle.flat_machine.specs.Process.{is_live};
+ghost use Rattle.flat_machine.specs.Process.{Process, is_live, opening};
 ghost use Rattle.guest_cli.specs.Answered.{AnswersRun, TellsRun};
 ghost use Rattle.guest_cli.specs.TurnRuns.{TellsTurns};
 ghost use Rattle.elf_image.specs.Start.{start_of};
@@ -37,7 +37,7 @@ where
     I: Read + Drop,
     O: Write,
     E: Write,
-    ensures { IfOk result (AnswersRun R.gives request.entry.image.now request.entry.frames
+    ensures { IfOk result (AnswersRun R.gives M.runs request.entry.image.now request.entry.frames
         request.entry.limit (I.remaining input) (O.contents out.old) (O.contents out.new)) }
 {
     let alloc = rt.alloc();
@@ -57,7 +57,7 @@ fn run_image<'a, M: FrameMachine, O: Write>(
     input: Vec<u8>,
     out: &mut O,
 ) -> Result<(End, u64), Fault<'a>>
-    ensures { IfOk result (λ done. TellsRun request.entry.frames request.entry.limit
+    ensures { IfOk result (λ done. TellsRun M.runs request.entry.frames request.entry.limit
         (start_of image input.items) (O.contents out.old) (O.contents out.new) done.0 done.1) }
 {
     if let Some(frames) = request.frames {
@@ -74,8 +74,9 @@ fn run_flat<'a, O: Write>(
     limit: u64,
     out: &mut O,
 ) -> Result<(End, u64), Fault<'a>>
-    ensures { IfOk result (λ done. TellsRun None limit (start_of image input.items)
-        (O.contents out.old) (O.contents out.new) done.0 done.1) }
+    ensures { IfOk result (λ done. (process : Process) ×
+        TellsTurns limit (opening image input.items) process (O.contents out.old)
+        (O.contents out.new) done.0 done.1) }
 {
     let process = FlatProcess::new(alloc, &image, input)?;
     let Ok(mut process) = Box::new(alloc, process) else {

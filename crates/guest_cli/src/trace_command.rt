@@ -1,10 +1,11 @@
 //! `guest trace`: a program's steps, a line each.
 
 use crate::begun_steps::begin_steps;
-use crate::functions::{Depths, write_flow};
+use crate::functions::{depth_of, write_flow};
 use crate::request::TraceRequest;
 use crate::step_line::write_step;
 use elf_symbols::Symbols;
+use guest_profile::Depths;
 use guest_steps::{StepString, ToldStep};
 use image_files::{Fault, Folder};
 use std::io::{Read, Write};
@@ -18,17 +19,18 @@ pub(crate) fn run_trace<'a, R: Folder + AllocGlobal, I: Read + Drop, O: Write>(
 ) -> Result<u8, Fault<'a>> {
     let (mut steps, file) = begin_steps(rt, request.image, input, u64::MAX)?;
     let symbols = Symbols::read(rt.alloc(), file.as_slice())?;
-    write_steps(&mut steps, request, &symbols, out)?;
+    let depths = Depths::new(rt.alloc())?;
+    write_steps(&mut steps, request, depths, &symbols, out)?;
     Ok(0)
 }
 
 fn write_steps<'a, O: Write>(
     steps: &mut StepString,
     request: TraceRequest<'a>,
+    mut depths: Depths,
     symbols: &Symbols<'_>,
     out: &mut O,
 ) -> Result<(), Fault<'a>> {
-    let mut depths = Depths::new();
     let mut lines = 0u64;
     'steps: while let Some(told) = steps.next()? {
         if write_one(steps, &told, request, &mut depths, symbols, out)? {
@@ -52,7 +54,7 @@ fn write_one<'a, O: Write>(
 ) -> Result<bool, Fault<'a>> {
     let number = steps.done();
     let flow = if request.is_of_functions {
-        depths.depth_of(told)
+        depth_of(depths, told)?
     } else {
         None
     };

@@ -4,7 +4,7 @@
 mod machine;
 
 use crate::machine::run_on_frames;
-use debug_session::SessionFault;
+use debug_session::{Dialect, SessionFault};
 use elf_image::Image;
 use flat_machine::End;
 use guest_cli::FrameMachine;
@@ -20,9 +20,13 @@ pub struct PagedMachine;
 impl FrameMachine for PagedMachine {
     ghost use Rattle.std.specs.Prelude.{Some};
     ghost use Rattle.serial_commands.specs.Debugged.{ConversesOver, IfLinesEnd};
+    ghost use Rattle.debug_session.specs.declared.lines.Dialect.TheVariants.{Fuller};
+    ghost use Rattle.guest_frames.specs.FrameRuns.{RunsOnFrames};
+
+    ghost runs = { λ frames limit start end steps. RunsOnFrames frames limit start end steps };
 
     ghost debugs = { λ frames image given lines old new result.
-        IfLinesEnd result (ConversesOver (Some frames) image given lines old new) };
+        IfLinesEnd result (ConversesOver Fuller (Some frames) image given lines old new) };
 
     fn run<'a, W: Write>(
         &self,
@@ -45,6 +49,14 @@ impl FrameMachine for PagedMachine {
         lines: I,
         out: &mut W,
     ) -> Result<(), SessionFault> {
-        debug_on(alloc, Some(frames), image, input, lines, out)
+        debug_on(
+            alloc,
+            Dialect::Fuller,
+            Some(frames),
+            image,
+            input,
+            lines,
+            out,
+        )
     }
 }

@@ -3,6 +3,7 @@
 ghost use Rattle.std.specs.Prelude.{◌≡◌, ◌+◌, ◌≤◌, IfOk};
 ghost use Rattle.elf_image.specs.Start.{start_of};
 ghost use Rattle.guest_cli.specs.FlatRuns.{TellsFlatRun};
+ghost use Rattle.guest_frames.specs.FrameRuns.{RunsOnFrames};
 
 use clock_ring::ClockRing;
 use elf_image::Image;
@@ -10,7 +11,7 @@ use flat_machine::{End, KillCause};
 use image_files::{Fault, memory_slots};
 use machine_core::Core;
 use machine_limits::MOST_PROCESSES;
-use serial_driver::{into_report, play};
+use serial_driver::{into_report, play_steps};
 use std::alloc::Global;
 use std::io::Write;
 use std::marker::Brand;
@@ -23,7 +24,7 @@ const SLOTS: u32 = 4096;
 /// How many instructions of a hart come before the next hart's turn.
 const SLICE: u32 = 1000;
 
-/// Runs an image on an input, on a machine of so many frames, until it has ended or so many events have happened; writes its output, and
+/// Runs an image on an input, on a machine of so many frames, until it has ended or so many steps are done; writes its output, and
 /// tells its ending and how many steps it took.
 pub(crate) fn run_on_frames<'a, W: Write>(
     alloc: Global,
@@ -33,8 +34,10 @@ pub(crate) fn run_on_frames<'a, W: Write>(
     limit: u64,
     out: &mut W,
 ) -> Result<(End, u64), Fault<'a>>
-    ensures { IfOk result (λ done. TellsFlatRun (start_of image input.items)
+    ensures flat { IfOk result (λ done. TellsFlatRun limit (start_of image input.items)
         (W.contents out.old) (W.contents out.new) done.0 done.1) }
+    ensures runs { IfOk result (λ done. RunsOnFrames frames limit (start_of image input.items)
+        done.0 done.1) }
 {
     let blank = Blank::new(u64::from(frames) + 1);
     run_machine::<Brand, W>(alloc, frames, blank, image, input, limit, out)
@@ -52,8 +55,10 @@ fn run_machine<'a, L: Ledger, W: Write>(
     requires name { blank.name ≡ L.name }
     requires parts { blank.parts ≡ L.parts }
     requires one_each { L.parts ≡ frames + 1 }
-    ensures { IfOk result (λ done. TellsFlatRun (start_of image input.items)
+    ensures flat { IfOk result (λ done. TellsFlatRun limit (start_of image input.items)
         (W.contents out.old) (W.contents out.new) done.0 done.1) }
+    ensures runs { IfOk result (λ done. RunsOnFrames frames limit (start_of image input.items)
+        done.0 done.1) }
 {
     let room = Vec::with_capacity(alloc, MOST_PROCESSES)?;
     let slots = memory_slots(alloc, SLOTS)?;
@@ -63,7 +68,7 @@ fn run_machine<'a, L: Ledger, W: Write>(
     let Ok(mut core) = made else {
         return Err(Fault::NoMemory);
     };
-    play(&mut core, SLICE, limit);
+    play_steps(&mut core, SLICE, 0, limit);
     let report = into_report(core, room);
     let Some(process) = report.processes.first() else {
         return Err(Fault::NoMemory);

@@ -5,58 +5,46 @@ use Rattle.std.proofs.lemmas.List.{take_more, take_all, take-append-le, drop-app
 use Rattle.guest_profile.specs.declared.call_site.CallCount.{CallCount}
 use Rattle.guest_profile.specs.declared.call_site.CallSite.{CallSite}
 use Rattle.guest_profile.specs.declared.call_stack.PendingCall.{PendingCall}
-use Rattle.guest_profile.specs.Calls.{is_behind, last_behind, ended, ended_call}
+use Rattle.guest_profile.specs.declared.call_stack.Sought.{Sought}
+use Rattle.guest_profile.specs.Calls.{is_sought, last_sought, ended, ended_call}
 
 -- one more call at the end
-behind_push : (address : ℕ) (calls : List PendingCall) (one : PendingCall) → last_behind address (calls ++ one ∷ []) ≡ cond (is_behind address one) (Some (length calls)) (last_behind address calls)
-behind_push address [] one = refl
-behind_push address (first ∷ later) one =
-    ap (λ o. option_or (option_map (λ place. place + 1) o) (cond (is_behind address first) (Some 0) None)) (behind_push address later one)
-    ∙ choose (is_behind address one)
+sought_push : (sought : Sought) (calls : List PendingCall) (one : PendingCall) → last_sought sought (calls ++ one ∷ []) ≡ cond (is_sought sought one) (Some (length calls)) (last_sought sought calls)
+sought_push sought [] one = refl
+sought_push sought (first ∷ later) one =
+    ap (λ o. option_or (option_map (λ place. place + 1) o) (cond (is_sought sought first) (Some 0) None)) (sought_push sought later one)
+    ∙ choose (is_sought sought one)
   where
-    choose : (b : Bool) → option_or (option_map (λ place. place + 1) (cond b (Some (length later)) (last_behind address later))) (cond (is_behind address first) (Some 0) None)
-        ≡ cond b (Some (suc (length later))) (option_or (option_map (λ place. place + 1) (last_behind address later)) (cond (is_behind address first) (Some 0) None))
+    choose : (b : Bool) → option_or (option_map (λ place. place + 1) (cond b (Some (length later)) (last_sought sought later))) (cond (is_sought sought first) (Some 0) None)
+        ≡ cond b (Some (suc (length later))) (option_or (option_map (λ place. place + 1) (last_sought sought later)) (cond (is_sought sought first) (Some 0) None))
     choose true = ap (λ n. Some n) (add-one (length later))
     choose false = refl
 
-step : (address : ℕ) (calls : List PendingCall) (place : ℕ) (d : PendingCall) → 0 < place → place ≤ length calls
-    → last_behind address (take place calls) ≡ cond (is_behind address (get_or calls (place - 1) d)) (Some (place - 1)) (last_behind address (take (place - 1) calls))
-step address calls place d some within =
+step : (sought : Sought) (calls : List PendingCall) (place : ℕ) (d : PendingCall) → 0 < place → place ≤ length calls
+    → last_sought sought (take place calls) ≡ cond (is_sought sought (get_or calls (place - 1) d)) (Some (place - 1)) (last_sought sought (take (place - 1) calls))
+step sought calls place d some within =
     let one : PendingCall = get_or calls (place - 1) d in
     let same : place ≡ place - 1 + 1 = omega arith in
     let size : length (take (place - 1) calls) ≡ place - 1 = omega (arith, length-take (place - 1) calls) in
-    ap (λ n. last_behind address (take n calls)) same
-    ∙ ap (last_behind address) (take_more calls (place - 1) d (omega arith))
-    ∙ behind_push address (take (place - 1) calls) one
-    ∙ ap (λ n. cond (is_behind address one) (Some n) (last_behind address (take (place - 1) calls))) size
+    ap (λ n. last_sought sought (take n calls)) same
+    ∙ ap (last_sought sought) (take_more calls (place - 1) d (omega arith))
+    ∙ sought_push sought (take (place - 1) calls) one
+    ∙ ap (λ n. cond (is_sought sought one) (Some n) (last_sought sought (take (place - 1) calls))) size
 
 -- the search from the end finds this one, or goes on before it
-pub behind_found : (address : ℕ) (calls : List PendingCall) (place : ℕ) (d : PendingCall) → 0 < place → place ≤ length calls → is_behind address (get_or calls (place - 1) d) ≡ true
-    → last_behind address (take place calls) ≡ Some (place - 1)
-behind_found address calls place d some within is = step address calls place d some within ∙ ap (λ b. cond b (Some (place - 1)) (last_behind address (take (place - 1) calls))) is
+pub sought_found : (sought : Sought) (calls : List PendingCall) (place : ℕ) (d : PendingCall) → 0 < place → place ≤ length calls → is_sought sought (get_or calls (place - 1) d) ≡ true
+    → last_sought sought (take place calls) ≡ Some (place - 1)
+sought_found sought calls place d some within is = step sought calls place d some within ∙ ap (λ b. cond b (Some (place - 1)) (last_sought sought (take (place - 1) calls))) is
 
-pub behind_passed : (address : ℕ) (calls : List PendingCall) (place : ℕ) (d : PendingCall) → 0 < place → place ≤ length calls → is_behind address (get_or calls (place - 1) d) ≡ false
-    → last_behind address (take place calls) ≡ last_behind address (take (place - 1) calls)
-behind_passed address calls place d some within is = step address calls place d some within ∙ ap (λ b. cond b (Some (place - 1)) (last_behind address (take (place - 1) calls))) is
+pub sought_passed : (sought : Sought) (calls : List PendingCall) (place : ℕ) (d : PendingCall) → 0 < place → place ≤ length calls → is_sought sought (get_or calls (place - 1) d) ≡ false
+    → last_sought sought (take place calls) ≡ last_sought sought (take (place - 1) calls)
+sought_passed sought calls place d some within is = step sought calls place d some within ∙ ap (λ b. cond b (Some (place - 1)) (last_sought sought (take (place - 1) calls))) is
 
-pub behind_all : (address : ℕ) (calls : List PendingCall) → last_behind address calls ≡ last_behind address (take (length calls) calls)
-behind_all address calls = ap (last_behind address) (sym (take_all (length calls) calls (omega arith)))
+pub sought_all : (sought : Sought) (calls : List PendingCall) → last_sought sought calls ≡ last_sought sought (take (length calls) calls)
+sought_all sought calls = ap (last_sought sought) (sym (take_all (length calls) calls (omega arith)))
 
-pub behind_none : (address : ℕ) (calls : List PendingCall) (place : ℕ) → place ≤ 0 → last_behind address (take place calls) ≡ None
-behind_none address calls place none = let zeroth : place ≡ 0 = omega arith in ap (λ n. last_behind address (take n calls)) zeroth
-
--- a place that is found is one of them
-pub behind_within : (address : ℕ) (calls : List PendingCall) (place : ℕ) → last_behind address calls ≡ Some place → place < length calls
-behind_within address [] place e = absurd (no_place e)
-  where
-    no_place : None ≡ Some place → ⊥
-    no_place e = cc
-behind_within address (first ∷ later) place e = choose (last_behind address later) (behind_within address later) (is_behind address first) e
-  where
-    choose : (found : Option ℕ) → ((p : ℕ) → found ≡ Some p → p < length later) → (b : Bool) → option_or (option_map (λ place. place + 1) found) (cond b (Some 0) None) ≡ Some place → place < suc (length later)
-    choose None below true h = let zeroth : place ≡ 0 = cc in omega arith
-    choose None below false h = absurd (cc)
-    choose (Some p) below b h = let next : place ≡ p + 1 = cc in let within = below p refl in omega arith
+pub sought_none : (sought : Sought) (calls : List PendingCall) (place : ℕ) → place ≤ 0 → last_sought sought (take place calls) ≡ None
+sought_none sought calls place none = let zeroth : place ≡ 0 = omega arith in ap (λ n. last_sought sought (take n calls)) zeroth
 
 -- the last of some calls ends first
 ended_push : (steps : ℕ) (calls : List PendingCall) (one : PendingCall) (site : CallSite) (count : Option CallCount) → ended steps (calls ++ one ∷ []) site count ≡ ended steps calls site (ended_call steps one site count)

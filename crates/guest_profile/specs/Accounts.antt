@@ -3,16 +3,17 @@ use Rattle.std.specs.Prelude.{◌≡◌, ℕ, ◌==◌, Bool, not, List, [], ◌
 use Rattle.page_memory.specs.declared.fault.MemoryFault.{MemoryFault}
 use Rattle.rv_isa.specs.declared.instruction.Insn.{Insn}
 use Rattle.rv_isa.specs.Table.{insn_of}
-use Rattle.rv_exec.specs.Registers.{next_pc}
+use Rattle.rv_exec.specs.Registers.{next_pc, register}
 use Rattle.guest_steps.specs.Accesses.{accessed}
 use Rattle.guest_steps.specs.Flows.{flow_of}
 use Rattle.guest_steps.specs.declared.told_step.ToldStep.{ToldStep}
-use Rattle.guest_profile.specs.Calls.{HartCalls, no_calls, hart_call_after, followed, all_ended, none_pending, calls_of, hart_calls}
+use Rattle.guest_profile.specs.Calls.{HartCalls, no_calls, hart_call_after, hart_level, followed, all_ended, none_pending, calls_of, hart_calls}
 use Rattle.guest_profile.specs.Counting.{counted, counts_of}
 use Rattle.guest_profile.specs.Pages.{used_by}
 use Rattle.guest_profile.specs.UsedPagesOf.{use_of}
 use Rattle.guest_profile.specs.declared.call_site.CallCount.{CallCount}
 use Rattle.guest_profile.specs.declared.call_site.CallSite.{CallSite}
+use Rattle.guest_profile.specs.declared.call_site.Jump.{Jump}
 use Rattle.guest_profile.specs.declared.insn_counts.InsnTally.{InsnTally}
 use Rattle.guest_profile.specs.declared.profile.Profile.{Profile}
 
@@ -28,28 +29,28 @@ pub record Account : Type 0 where
 abbrev pub nothing : Account
 nothing = record { insns = λ at. None; calls = λ site. None; pages = λ page. None; harts = replicate 8 no_calls }
 
--- a step as a call: where it is, and where its hart goes on
-abbrev pub step_call : ToldStep → CallSite
-step_call told = record { site = told.before.pc; callee = told.after.pc }
+-- a step as a jump: where it is, where its hart goes on, and its stack pointer (x2) then
+abbrev pub step_jump : ToldStep → Jump
+step_jump told = record { site = told.before.pc; target = told.after.pc; sp = register told.after 2 }
 
 -- whether a hart goes on elsewhere than behind its instruction
 abbrev pub is_taken : ToldStep → Bool
 is_taken told = not (told.after.pc == next_pc told.before)
 
--- a step of an instruction's word
-abbrev pub insns_after : ToldStep → ℕ → ℕ → Option InsnTally → Option InsnTally
-insns_after told word at tally = counted told.before.pc word (is_taken told) at tally
+-- a step of an instruction's word, at the level of its hart's last pending call
+abbrev pub insns_after : ToldStep → ℕ → List HartCalls → ℕ → Option InsnTally → Option InsnTally
+insns_after told word harts at tally = counted told.before.pc word (is_taken told) (hart_level (slice_get harts told.hart) == 2) at tally
 
 -- A step of the instruction that the word is. A word that is none counts alone: its step is a trap.
 abbrev pub after_insn : Option Insn → ℕ → ToldStep → Account → Account
 after_insn None word told account =
-    record { insns = λ at. insns_after told word at (account.insns at); calls = account.calls; pages = account.pages; harts = account.harts }
+    record { insns = λ at. insns_after told word account.harts at (account.insns at); calls = account.calls; pages = account.pages; harts = account.harts }
 after_insn (Some insn) word told account =
     record {
-      insns = λ at. insns_after told word at (account.insns at);
-      calls = λ site. hart_call_after (slice_get account.harts told.hart) (flow_of insn) (step_call told) site (account.calls site);
+      insns = λ at. insns_after told word account.harts at (account.insns at);
+      calls = λ site. hart_call_after (slice_get account.harts told.hart) (flow_of insn) (step_jump told) site (account.calls site);
       pages = λ page. used_by (accessed told.before insn) page (account.pages page);
-      harts = followed told.hart (flow_of insn) (step_call told) account.harts;
+      harts = followed told.hart (flow_of insn) (step_jump told) account.harts;
     }
 
 -- a step, of which the fetch gave this; where it gave no word, none of an instruction
@@ -61,7 +62,7 @@ after_fetch (Ok word) told account = after_insn (insn_of word) word told account
 unfoldable pub after : ToldStep → Account → Account
 after told account = after_fetch told.word told account
 
--- and when the run is over: all calls have returned
+-- and when the run is over: all calls are over
 unfoldable pub closed : Account → Account
 closed account = record { insns = account.insns; calls = λ site. all_ended account.harts site (account.calls site); pages = account.pages; harts = map none_pending account.harts }
 

@@ -1,5 +1,5 @@
 -- The calls of harts, and what is counted of each call.
-use Rattle.std.specs.Prelude.{ℕ, ◌+◌, ◌-◌, ◌%◌, ◌^◌, ◌==◌, min, Bool, ◌&&◌, if◌then◌else◌, List, [], ◌∷◌, ◌++◌, take, drop, slice_get, slice_set, Option, Some, None, is_some, unwrap_or}
+use Rattle.std.specs.Prelude.{ℕ, ◌+◌, ◌-◌, ◌%◌, ◌^◌, ◌==◌, nat_le, nat_lt, Bool, true, ◌&&◌, if◌then◌else◌, List, [], ◌∷◌, ◌++◌, length, take, drop, slice_get, slice_set, Option, Some, None, is_some, unwrap_or}
 use Rattle.std.specs.HashMap.{get}
 use Rattle.std.specs.Ordering.{nat_cmp, ordering_then}
 use Rattle.std.specs.declared.cmp.Ordering.{Ordering}
@@ -10,16 +10,20 @@ use Rattle.guest_profile.specs.declared.call_counts.CallCounts.{CallCounts}
 use Rattle.guest_profile.specs.declared.call_site.CallCount.{CallCount}
 use Rattle.guest_profile.specs.declared.call_site.CallSite.{CallSite}
 use Rattle.guest_profile.specs.declared.call_stack.CallStack.{CallStack}
+use Rattle.guest_profile.specs.declared.call_site.Jump.{Jump}
 use Rattle.guest_profile.specs.declared.call_stack.PendingCall.{PendingCall}
+use Rattle.guest_profile.specs.declared.call_stack.Sought.{Sought}
+use Rattle.guest_profile.specs.declared.call_stack.Sought.TheVariants.{Behind, To, HeldAt, HeldAbove}
 use Rattle.guest_profile.specs.Counting.{more}
 
--- two calls from the same place to the same callee
+-- two calls from the same place to the same callee, at the same levels
 abbrev pub is_call : CallSite → CallSite → Bool
-is_call one other = (one.site == other.site) && (one.callee == other.callee)
+is_call one other = (one.site == other.site) && ((one.callee == other.callee) && ((one.from_level == other.from_level) && (one.level == other.level)))
 
--- calls by rising site, and of one site by rising callee
+-- calls by rising site, of one site by rising callee, and of one callee by rising levels
 abbrev pub call_cmp : CallSite → CallSite → Ordering
-call_cmp one other = ordering_then (nat_cmp one.site other.site) (nat_cmp one.callee other.callee)
+call_cmp one other =
+    ordering_then (nat_cmp one.site other.site) (ordering_then (nat_cmp one.callee other.callee) (ordering_then (nat_cmp one.from_level other.from_level) (nat_cmp one.level other.level)))
 
 -- what is counted of a call, where it was made
 abbrev pub calls_of : CallCounts → CallSite → Option CallCount
@@ -29,26 +33,25 @@ abbrev pub was_made : CallCounts → CallSite → Bool
 was_made counts site = is_some (calls_of counts site)
 
 abbrev pub call_known : Option CallCount → CallCount
-call_known count = unwrap_or count (record { times = 0; inside = 0; pending = 0 })
+call_known count = unwrap_or count (record { times = 0; inside = 0 })
 
 -- one more of the same call
 abbrev pub begun_count : CallCount → CallCount
-begun_count count = record { times = more count.times 1; inside = count.inside; pending = min (count.pending + 1) (2 ^ 32 - 1) }
+begun_count count = record { times = more count.times 1; inside = count.inside }
 
 -- what is counted of a call after one was made, the same one or another
 abbrev pub begun : CallSite → CallSite → Option CallCount → Option CallCount
 begun call site count = if is_call call site then Some (begun_count (call_known count)) else count
 
--- One of the same calls has returned after so many steps. These count where no other of them is pending: a call's steps within the same
--- call are counted once.
-abbrev pub ended_count : ℕ → CallCount → CallCount
-ended_count inside count = record { times = count.times; inside = more count.inside (if count.pending - 1 == 0 then inside else 0); pending = count.pending - 1 }
+-- one of the same calls is over after so many steps, which count or do not
+abbrev pub ended_count : ℕ → Bool → CallCount → CallCount
+ended_count inside counts count = record { times = count.times; inside = more count.inside (if counts then inside else 0) }
 
--- what is counted of a call after one has returned, the same one or another, when its hart had done so many steps
+-- what is counted of a call after one is over, the same one or another, when its hart had done so many steps
 abbrev pub ended_call : ℕ → PendingCall → CallSite → Option CallCount → Option CallCount
-ended_call steps one site count = if is_call one.call site then Some (ended_count (steps - one.begun) (call_known count)) else count
+ended_call steps one site count = if is_call one.call site then Some (ended_count (steps - one.begun) one.counts (call_known count)) else count
 
--- and after several have, the last one first
+-- and after several are, the last one first
 abbrev pub ended : ℕ → List PendingCall → CallSite → Option CallCount → Option CallCount
 ended steps [] site count = count
 ended steps (one ∷ later) site count = ended_call steps one site (ended steps later site count)
@@ -68,60 +71,137 @@ no_calls = record { pending = []; steps = 0 }
 abbrev pub stepped : HartCalls → HartCalls
 stepped hart = record { pending = hart.pending; steps = more hart.steps 1 }
 
--- it calls
-abbrev pub made : CallSite → HartCalls → HartCalls
-made call hart = record { pending = hart.pending ++ (record { call = call; begun = hart.steps }) ∷ []; steps = hart.steps }
+-- whether a pending call is one that is sought: an address is the one behind it; it is of this callee; it was made at this stack pointer or
+-- above it; it was made above it
+abbrev pub is_sought : Sought → PendingCall → Bool
+is_sought (Behind address) one = (one.call.site + 4) % 2 ^ 32 == address
+is_sought (To callee) one = one.call.callee == callee
+is_sought (HeldAt sp) one = nat_le sp one.sp
+is_sought (HeldAbove sp) one = nat_lt sp one.sp
 
--- whether an address is the one behind a call
-abbrev pub is_behind : ℕ → PendingCall → Bool
-is_behind address one = (one.call.site + 4) % 2 ^ 32 == address
+-- the last of some calls that is sought, by its place among them
+abbrev pub last_sought : Sought → List PendingCall → Option ℕ
+last_sought sought [] = None
+last_sought sought (one ∷ later) = option_or (option_map (λ place. place + 1) (last_sought sought later)) (if is_sought sought one then Some 0 else None)
 
--- the last of some calls behind which an address is, by its place among them
-abbrev pub last_behind : ℕ → List PendingCall → Option ℕ
-last_behind address [] = None
-last_behind address (one ∷ later) = option_or (option_map (λ place. place + 1) (last_behind address later)) (if is_behind address one then Some 0 else None)
+-- A call is an inner one, of level 2, where its hart has a pending call of the same callee; else it is of level 1. The steps of a hart count
+-- for the level of its last pending call.
+abbrev pub level_of : Option PendingCall → ℕ
+level_of None = 1
+level_of (Some one) = one.call.level
 
--- the calls from a place on have returned
-abbrev pub returned : Option ℕ → HartCalls → HartCalls
-returned None hart = hart
-returned (Some place) hart = record { pending = take place hart.pending; steps = hart.steps }
+abbrev pub level_in : List PendingCall → ℕ
+level_in pending = level_of (slice_get pending (length pending - 1))
 
-abbrev pub ended_from : Option ℕ → HartCalls → CallSite → Option CallCount → Option CallCount
-ended_from None hart site count = count
-ended_from (Some place) hart site count = ended hart.steps (drop place hart.pending) site count
+-- the last pending call of a callee
+abbrev pub call_at : Option ℕ → List PendingCall → Option PendingCall
+call_at None pending = None
+call_at (Some place) pending = slice_get pending place
 
--- the calls of a hart after a step of it that calls, returns or does neither, and goes on at the callee: to return to an address is to
--- return from the last pending call before that address, and from all that were made since
-abbrev pub hart_after : Flow → CallSite → HartCalls → HartCalls
-hart_after Call call hart = made call hart
-hart_after Return call hart = returned (last_behind call.callee hart.pending) hart
-hart_after Branch call hart = hart
-hart_after Other call hart = hart
+abbrev pub last_to : ℕ → List PendingCall → Option PendingCall
+last_to callee pending = call_at (last_sought (To callee) pending) pending
+
+-- a call beside that one: its level, and whether its steps count, which they do once at each level
+abbrev pub level_beside : Option PendingCall → ℕ
+level_beside None = 1
+level_beside (Some one) = 2
+
+abbrev pub counts_beside : Option PendingCall → Bool
+counts_beside None = true
+counts_beside (Some one) = one.call.level == 1
+
+-- the call that a step makes
+abbrev pub call_made : Jump → List PendingCall → CallSite
+call_made jump pending = record { site = jump.site; callee = jump.target; from_level = level_in pending; level = level_beside (last_to jump.target pending) }
+
+abbrev pub pending_made : Jump → HartCalls → PendingCall
+pending_made jump hart = record {
+  call = call_made jump hart.pending;
+  begun = hart.steps;
+  sp = jump.sp;
+  counts = counts_beside (last_to jump.target hart.pending);
+}
+
+abbrev pub made : Jump → HartCalls → HartCalls
+made jump hart = record { pending = hart.pending ++ pending_made jump hart ∷ []; steps = hart.steps }
+
+-- the calls up to the last one that is sought are held
+abbrev pub place_behind : Option ℕ → ℕ
+place_behind None = 0
+place_behind (Some place) = place + 1
+
+abbrev pub held : Sought → List PendingCall → ℕ
+held sought pending = place_behind (last_sought sought pending)
+
+-- the calls from a place on are over
+abbrev pub cut : ℕ → HartCalls → HartCalls
+cut place hart = record { pending = take place hart.pending; steps = hart.steps }
+
+abbrev pub ended_from : ℕ → HartCalls → CallSite → Option CallCount → Option CallCount
+ended_from place hart site count = ended hart.steps (drop place hart.pending) site count
+
+-- A call that was made at a lower stack pointer than the hart's is over: the hart has left it, as longjmp does. So are all calls behind the
+-- last one that was made at this stack pointer or above it.
+abbrev pub place_left : ℕ → HartCalls → ℕ
+place_left sp hart = held (HeldAt sp) hart.pending
+
+abbrev pub unwound : ℕ → HartCalls → HartCalls
+unwound sp hart = cut (place_left sp hart) hart
+
+-- To return to an address is to return from the last pending call before that address, and from all that were made since. Where it is
+-- behind no pending call, the hart comes back elsewhere: then it has left all calls that were made at its stack pointer or below it.
+abbrev pub return_place : ℕ → ℕ → List PendingCall → ℕ
+return_place address sp pending = unwrap_or (last_sought (Behind address) pending) (held (HeldAbove sp) pending)
+
+abbrev pub place_returned : Jump → HartCalls → ℕ
+place_returned jump hart = return_place jump.target jump.sp hart.pending
+
+-- the calls of a hart after a step of it that calls, returns or does neither, once those are over that were left by the stack pointer
+abbrev pub flowed : Flow → Jump → HartCalls → HartCalls
+flowed Call jump hart = made jump hart
+flowed Return jump hart = cut (place_returned jump hart) hart
+flowed Branch jump hart = hart
+flowed Other jump hart = hart
+
+abbrev pub hart_after : Flow → Jump → HartCalls → HartCalls
+hart_after flow jump hart = flowed flow jump (unwound jump.sp (stepped hart))
 
 -- and what is counted of a call then
-abbrev pub call_after : Flow → CallSite → HartCalls → CallSite → Option CallCount → Option CallCount
-call_after Call call hart site count = begun call site count
-call_after Return call hart site count = ended_from (last_behind call.callee hart.pending) hart site count
-call_after Branch call hart site count = count
-call_after Other call hart site count = count
+abbrev pub call_flowed : Flow → Jump → HartCalls → CallSite → Option CallCount → Option CallCount
+call_flowed Call jump hart site count = begun (call_made jump hart.pending) site count
+call_flowed Return jump hart site count = ended_from (place_returned jump hart) hart site count
+call_flowed Branch jump hart site count = count
+call_flowed Other jump hart site count = count
+
+abbrev pub call_after : Flow → Jump → HartCalls → CallSite → Option CallCount → Option CallCount
+call_after flow jump hart site count = call_flowed flow jump (unwound jump.sp (stepped hart)) site (ended_from (place_left jump.sp (stepped hart)) (stepped hart) site count)
 
 -- the same where there is such a hart
-abbrev pub hart_call_after : Option HartCalls → Flow → CallSite → CallSite → Option CallCount → Option CallCount
-hart_call_after None flow call site count = count
-hart_call_after (Some hart) flow call site count = call_after flow call (stepped hart) site count
+abbrev pub hart_call_after : Option HartCalls → Flow → Jump → CallSite → Option CallCount → Option CallCount
+hart_call_after None flow jump site count = count
+hart_call_after (Some hart) flow jump site count = call_after flow jump hart site count
 
-abbrev pub with_hart : ℕ → Option HartCalls → Flow → CallSite → List HartCalls → List HartCalls
-with_hart number None flow call harts = harts
-with_hart number (Some hart) flow call harts = slice_set harts number (hart_after flow call (stepped hart))
+abbrev pub with_hart : ℕ → Option HartCalls → Flow → Jump → List HartCalls → List HartCalls
+with_hart number None flow jump harts = harts
+with_hart number (Some hart) flow jump harts = slice_set harts number (hart_after flow jump hart)
 
-abbrev pub followed : ℕ → Flow → CallSite → List HartCalls → List HartCalls
-followed number flow call harts = with_hart number (slice_get harts number) flow call harts
+abbrev pub followed : ℕ → Flow → Jump → List HartCalls → List HartCalls
+followed number flow jump harts = with_hart number (slice_get harts number) flow jump harts
 
--- all calls of a hart have returned
+-- the level at which a hart's steps count, and how many of its calls are pending
+abbrev pub hart_level : Option HartCalls → ℕ
+hart_level None = 1
+hart_level (Some hart) = level_in hart.pending
+
+abbrev pub hart_depth : Option HartCalls → ℕ
+hart_depth None = 0
+hart_depth (Some hart) = length hart.pending
+
+-- all calls of a hart are over
 abbrev pub none_pending : HartCalls → HartCalls
 none_pending hart = record { pending = []; steps = hart.steps }
 
--- those of all harts have, one hart after the other
+-- those of all harts are, one hart after the other
 abbrev pub all_ended : List HartCalls → CallSite → Option CallCount → Option CallCount
 all_ended [] site count = count
 all_ended (hart ∷ others) site count = all_ended others site (ended hart.steps hart.pending site count)

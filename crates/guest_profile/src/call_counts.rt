@@ -36,13 +36,13 @@ impl CallCounts {
         self.set(call, count)
     }
 
-    /// A call has returned, after so many steps of its hart.
+    /// A call is over, after so many steps of its hart.
     pub(crate) fn end(&mut self, ended: PendingCall, steps: u64) -> Result<(), AllocError>
         ensures { OnOk result ((site : CallSite) → calls_of self.new site ≡
             ended_call steps ended site (calls_of self.old site)) }
     {
         let inside = steps.saturating_sub(ended.begun);
-        let count = ended_count(inside, self.known(ended.call));
+        let count = ended_count(inside, ended.counts, self.known(ended.call));
         self.set(ended.call, count)
     }
 
@@ -79,7 +79,6 @@ impl CallCounts {
             None => CallCount {
                 times: 0,
                 inside: 0,
-                pending: 0,
             },
         }
     }
@@ -102,19 +101,16 @@ fn begun_count(count: CallCount) -> CallCount
     CallCount {
         times: count.times.saturating_add(1),
         inside: count.inside,
-        pending: count.pending.saturating_add(1),
     }
 }
 
-/// One of the same calls has returned. The steps of one within another are the other's.
-fn ended_count(inside: u64, count: CallCount) -> CallCount
-    ensures { result ≡ ended_count inside count }
+/// One of the same calls is over, after so many steps, which count or do not.
+fn ended_count(inside: u64, counts: bool, count: CallCount) -> CallCount
+    ensures { result ≡ ended_count inside counts count }
 {
-    let pending = count.pending.saturating_sub(1);
-    let added = if pending == 0 { inside } else { 0 };
+    let added = if counts { inside } else { 0 };
     CallCount {
         times: count.times,
         inside: count.inside.saturating_add(added),
-        pending,
     }
 }

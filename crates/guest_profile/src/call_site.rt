@@ -1,18 +1,28 @@
 //! Calls.
 
-/// A place that calls, and where it jumps to.
+/// A step as a jump: where it is, where its hart goes on, and the hart's stack pointer (x2) then.
+#[derive(Clone, Copy, Debug)]
+pub(crate) struct Jump {
+    pub(crate) site: u32,
+    pub(crate) target: u32,
+    pub(crate) sp: u32,
+}
+
+/// A place that calls, what it calls, and at which levels. A call is of level 2 where its hart has a pending call of the same callee, else
+/// of level 1.
 #[derive(Clone, Copy, Debug, PartialEq, Eq, PartialOrd, Ord, Hash)]
 pub struct CallSite {
     pub site: u32,
     pub callee: u32,
+    /// Of the last call that was pending before it; 1 where none was.
+    pub from_level: u32,
+    pub level: u32,
 }
 
-/// How often a place called, and how many steps its hart did until the returns.
+/// How often a place called, and how many steps its harts did until the returns.
 #[derive(Clone, Copy, Debug, PartialEq, Eq)]
 pub struct CallCount {
     pub times: u64,
-    /// The steps of a call within the same call are counted once.
+    /// The steps of a call within a call of level 2 to the same callee count there.
     pub inside: u64,
-    /// How many of them have not returned.
-    pub(crate) pending: u32,
 }

@@ -17,6 +17,10 @@ pub struct InsnTally {
     pub steps: u64,
     /// How often the program went on elsewhere than behind it.
     pub taken: u64,
+    /// How often it ran within a call of level 2.
+    pub inner_steps: u64,
+    /// How often the program went on elsewhere than behind it then.
+    pub inner_taken: u64,
     /// Its word, as it was when it ran first.
     pub word: u32,
 }
@@ -36,25 +40,28 @@ impl InsnCounts {
         }
     }
 
-    /// Counts a step of the instruction at an address.
+    /// Counts a step of the instruction at an address, of an inner call or not.
     pub(crate) fn count(
         &mut self,
         address: u32,
         word: u32,
         is_taken: bool,
+        is_inner: bool,
     ) -> Result<(), AllocError>
-        ensures { OnOk result ((at : ℕ) → counts_of self.new at ≡ counted address word is_taken at
-            (counts_of self.old at)) }
+        ensures { OnOk result ((at : ℕ) → counts_of self.new at ≡
+            counted address word is_taken is_inner at (counts_of self.old at)) }
     {
         let counts = match self.counts.get(&address) {
             Some(counts) => *counts,
             None => InsnTally {
                 steps: 0,
                 taken: 0,
+                inner_steps: 0,
+                inner_taken: 0,
                 word,
             },
         };
-        let more = one_more(counts, is_taken);
+        let more = one_more(counts, is_taken, is_inner);
         self.counts.insert(address, more).map_err(AllocError::from)?;
         Ok(())
     }
@@ -98,12 +105,15 @@ impl InsnCounts {
     }
 }
 
-fn one_more(counts: InsnTally, is_taken: bool) -> InsnTally
-    ensures { result ≡ one_more is_taken counts }
+fn one_more(counts: InsnTally, is_taken: bool, is_inner: bool) -> InsnTally
+    ensures { result ≡ one_more is_taken is_inner counts }
 {
+    let is_inner_taken = is_taken && is_inner;
     InsnTally {
         steps: counts.steps.saturating_add(1),
         taken: counts.taken.saturating_add(u64::from(is_taken)),
+        inner_steps: counts.inner_steps.saturating_add(u64::from(is_inner)),
+        inner_taken: counts.inner_taken.saturating_add(u64::from(is_inner_taken)),
         word: counts.word,
     }
 }

@@ -4,11 +4,13 @@
 mod call_counts;
 mod call_site;
 mod call_stack;
+mod depths;
 mod insn_counts;
 mod profile;
 mod stacks;
 mod used_pages;
 
 pub use call_site::{CallCount, CallSite};
+pub use depths::Depths;
 pub use insn_counts::{InsnCounts, InsnTally};
 pub use profile::Profile;

@@ -8,14 +8,17 @@ ghost use Rattle.guest_profile.specs.Listed.{AreAll, AreSoMany};
 ghost use Rattle.guest_profile.specs.UsedPagesOf.{was_used, was_stored_to};
 
 use crate::call_counts::CallCounts;
-use crate::call_site::{CallCount, CallSite};
+use crate::call_site::{CallCount, CallSite, Jump};
 use crate::call_stack::CallStack;
 use crate::insn_counts::InsnCounts;
-use crate::stacks::{end_all, follow, no_stacks};
+use crate::stacks::{end_all, follow, level, no_stacks};
 use crate::used_pages::UsedPages;
 use guest_steps::{ToldStep, access_of, flow_of};
 use rv_isa::decode;
 use std::alloc::{AllocError, Global};
+
+/// The number of the stack pointer.
+pub(crate) const SP: u8 = 2;
 
 /// What is counted of the steps of a process.
 #[derive(Drop)]
@@ -49,22 +52,25 @@ impl Profile {
         };
         let before = &told.before;
         let (pc, next) = (before.pc(), told.after.pc());
-        self.insns.count(pc, word, next != before.next_pc())?;
+        let is_taken = next != before.next_pc();
+        let is_inner = level(self.stacks.as_slice(), told.hart) == 2;
+        self.insns.count(pc, word, is_taken, is_inner)?;
         let Some(insn) = decode(word) else {
             return Ok(());
         };
         let kept = insn;
         self.pages.mark(access_of(before, kept))?;
-        let call = CallSite {
+        let jump = Jump {
             site: pc,
-            callee: next,
+            target: next,
+            sp: told.after.x(SP),
         };
         let flow = flow_of(insn);
-        follow(&mut self.stacks, told.hart, flow, call, &mut self.calls)?;
+        follow(&mut self.stacks, told.hart, flow, jump, &mut self.calls)?;
         Ok(())
     }
 
-    /// The run is over: the calls that have not returned have returned.
+    /// The run is over, and so are all calls.
     #[tactic(auto, unfolding(crate::specs::Accounts::closed))]
     pub fn end(&mut self) -> Result<(), AllocError>
         ensures { OnOk result ((account : Account) → IsAccount self.old account →

@@ -2,10 +2,10 @@
 
 ghost use Rattle.std.specs.Prelude.{◌≡◌, OnOk, IfOk, map, replicate, slice_get};
 ghost use Rattle.guest_profile.specs.declared.call_site.CallSite.{CallSite};
-ghost use Rattle.guest_profile.specs.Calls.{all_ended, calls_of, followed, hart_call_after, hart_calls, no_calls, none_pending};
+ghost use Rattle.guest_profile.specs.Calls.{all_ended, calls_of, followed, hart_call_after, hart_calls, hart_depth, hart_level, no_calls, none_pending};
 
 use crate::call_counts::CallCounts;
-use crate::call_site::CallSite;
+use crate::call_site::Jump;
 use crate::call_stack::CallStack;
 use guest_steps::Flow;
 use std::alloc::{AllocError, Global};
@@ -24,30 +24,52 @@ pub(crate) fn no_stacks(alloc: Global) -> Result<Vec<CallStack>, AllocError>
     Ok(stacks)
 }
 
-/// A hart does a step, after which it goes on at the callee.
+/// A hart does a step.
 #[tactic(auto, using(crate::proofs::FollowedHarts::harts_followed, crate::proofs::FollowedHarts::hart_there, crate::proofs::FollowedHarts::no_hart))]
 pub(crate) fn follow(
     stacks: &mut Vec<CallStack>,
     hart: u32,
     flow: Flow,
-    call: CallSite,
+    jump: Jump,
     counts: &mut CallCounts,
 ) -> Result<(), AllocError>
     ensures harts { OnOk result (map hart_calls stacks.new.items ≡
-        followed hart flow call (map hart_calls stacks.old.items)) }
+        followed hart flow jump (map hart_calls stacks.old.items)) }
     ensures calls { OnOk result ((site : CallSite) → calls_of counts.new site ≡
-        hart_call_after (slice_get (map hart_calls stacks.old.items) hart) flow call site
+        hart_call_after (slice_get (map hart_calls stacks.old.items) hart) flow jump site
         (calls_of counts.old site)) }
 {
     let place = hart as usize;
     if place >= stacks.len() {
         return Ok(());
     }
-    stacks[place].follow(flow, call, counts)?;
+    stacks[place].follow(flow, jump, counts)?;
     Ok(())
 }
 
-/// All calls of all harts have returned.
+/// The level at which a hart's steps count.
+#[tactic(auto, using(crate::proofs::FollowedHarts::hart_found))]
+pub(crate) fn level(stacks: &[CallStack], hart: u32) -> u32
+    ensures { result ≡ hart_level (slice_get (map hart_calls stacks.now) hart) }
+{
+    match stacks.get(hart as usize) {
+        Some(stack) => stack.level(),
+        None => 1,
+    }
+}
+
+/// How many calls of a hart are pending.
+#[tactic(auto, using(crate::proofs::FollowedHarts::hart_found))]
+pub(crate) fn depth(stacks: &[CallStack], hart: u32) -> usize
+    ensures { result ≡ hart_depth (slice_get (map hart_calls stacks.now) hart) }
+{
+    match stacks.get(hart as usize) {
+        Some(stack) => stack.depth(),
+        None => 0,
+    }
+}
+
+/// All calls of all harts are over.
 pub(crate) fn end_all(
     stacks: &mut Vec<CallStack>,
     counts: &mut CallCounts,

@@ -4,14 +4,14 @@ ghost use Rattle.std.specs.Prelude.{◌≡◌, ◌==◌, ◌+◌, ◌%◌, ◌<�
 
 use crate::crew::Shift;
 use crate::paging_in::bring_in;
-use crate::seats::{EMPTY, Lack, Row, Seat, seats};
+use crate::seats::{EMPTY, Lack, Row, Seat, hungry_process, seats};
 use clock_policy::Clock;
 use flat_machine::KillCause;
 use machine_limits::{MOST_HARTS, MOST_PROCESSES};
-use reclaim_daemon::{Gate, HoldOfProcess, ProcessLocks, Shared};
+use reclaim_daemon::{Gate, HoldOfProcess, ProcessLocks, Reclaimer, Shared};
 use space_core::{Slice, SliceStop};
-use std::sync::Wait;
 use std::sync::ledger::Ledger;
+use std::sync::{Mutex, Wait};
 use swap_slots::SwapSlot;
 
 /// Carries the harts of a machine that fall to a worker, one of so many, until each process has ended: hart `h` of process `p` falls to
@@ -25,6 +25,7 @@ pub fn carrier<L: Ledger, S: SwapSlot, C: Clock, G: Gate, R: Wait>(
     worker: u32,
     workers: u32,
     slice: u32,
+    reclaimer: &Mutex<Reclaimer<'_>>,
     gate: &G,
 ) -> Shift
     ensures { result ≡ record { worker = worker; workers = workers; slice = slice } }
@@ -36,19 +37,16 @@ pub fn carrier<L: Ledger, S: SwapSlot, C: Clock, G: Gate, R: Wait>(
     };
     let locks = shared.locks();
     let mut seats = seats();
-    let mut hungry = false;
     for _ in rt.forever() {
         // In this order: the ring that tells of the last ending comes behind it, and is not to be among those that are known already.
         let rings = locks.rings(worker);
         if locks.has_ended() {
             return shift;
         }
-        let round = carry_round(rt, shared, &shift, &mut seats, rings, gate);
-        if hungry != round.hungry {
-            hungry = round.hungry;
-            if !hungry {
-                locks.set_hungry(worker, false);
-            }
+        let round = carry_round(rt, shared, &shift, &mut seats, reclaimer, gate);
+        locks.set_hungry(worker, round.hungry);
+        if !round.ran || round.hungry.is_none() {
+            locks.pass_turn(worker);
         }
         if !round.ran {
             locks.wait_for_ring(rt, worker, rings);
@@ -62,64 +60,105 @@ pub fn carrier<L: Ledger, S: SwapSlot, C: Clock, G: Gate, R: Wait>(
 struct Round {
     /// Whether any instruction ran.
     ran: bool,
-    /// Whether a hart waits for a frame.
-    hungry: bool,
+    /// The least process of which a hart waits for a frame.
+    hungry: Option<u32>,
 }
 
-/// Carries each hart that falls to a worker and may be carried.
+/// Carries each hart that falls to a worker and may be carried. Where the turn to make room comes to the worker meanwhile, the process for which it
+/// waits goes first.
 fn carry_round<L: Ledger, S: SwapSlot, C: Clock, G: Gate, R: Wait>(
     rt: &R,
     shared: &Shared<L, S, C>,
     shift: &Shift,
     seats: &mut [Row; MOST_PROCESSES],
-    rings: u64,
+    reclaimer: &Mutex<Reclaimer<'_>>,
     gate: &G,
 ) -> Round {
     let mut round = Round {
         ran: false,
-        hungry: false,
+        hungry: None,
     };
+    let locks = shared.locks();
+    let mut had_turn = locks.has_turn(shift.worker);
     for process in 0..shared.processes() {
-        if let Some(row) = seats.get_mut(process as usize) {
-            let of_process = carry_process(rt, shared, process, shift, row, rings, gate);
-            round.ran = round.ran || of_process.ran;
-            round.hungry = round.hungry || of_process.hungry;
+        let has_turn = locks.has_turn(shift.worker);
+        if has_turn && !had_turn {
+            if let Some(first) = locks.hungry_for(shift.worker) {
+                let of_first = carry_row(rt, shared, first, shift, seats, reclaimer, gate);
+                round.ran = round.ran || of_first.ran;
+                locks.set_hungry(shift.worker, hungry_process(seats));
+            }
         }
+        had_turn = has_turn;
+        let of_process = carry_row(rt, shared, process, shift, seats, reclaimer, gate);
+        round.ran = round.ran || of_process.ran;
+        round.hungry = round.hungry.or(of_process.hungry);
     }
     round
 }
 
 /// The same of the harts of one process.
+fn carry_row<L: Ledger, S: SwapSlot, C: Clock, G: Gate, R: Wait>(
+    rt: &R,
+    shared: &Shared<L, S, C>,
+    process: u32,
+    shift: &Shift,
+    seats: &mut [Row; MOST_PROCESSES],
+    reclaimer: &Mutex<Reclaimer<'_>>,
+    gate: &G,
+) -> Round {
+    if shared.locks().has_live(process) {
+        if let Some(row) = seats.get_mut(process as usize) {
+            return carry_process(rt, shared, process, shift, row, reclaimer, gate);
+        }
+    }
+    Round {
+        ran: false,
+        hungry: None,
+    }
+}
+
 fn carry_process<L: Ledger, S: SwapSlot, C: Clock, G: Gate, R: Wait>(
     rt: &R,
     shared: &Shared<L, S, C>,
     process: u32,
     shift: &Shift,
     row: &mut Row,
-    rings: u64,
+    reclaimer: &Mutex<Reclaimer<'_>>,
     gate: &G,
 ) -> Round {
     let mut round = Round {
         ran: false,
-        hungry: false,
+        hungry: None,
     };
     let locks = shared.locks();
+    let rings = locks.rings(shift.worker);
     let mut next = first_hart(process, shift);
     for _ in 0..MOST_HARTS {
         let Some(seat) = row.get_mut(next as usize) else {
             return round;
         };
         let hart = next as u32;
-        if locks.may_run(process, hart) && falls_to(process, hart, shift) {
-            if carry_hart(rt, shared, process, hart, shift, seat, rings, gate) {
+        if !locks.is_live(process, hart) {
+            *seat = EMPTY;
+        } else if locks.may_run(process, hart) && falls_to(process, hart, shift) {
+            let pages = locks.pages();
+            let lacked = seat.lack.is_some();
+            if carry_hart(
+                rt, shared, process, hart, shift, seat, rings, reclaimer, gate,
+            ) {
                 round.ran = true;
             }
-        } else if locks.is_live(process, hart) {
-            seat.let_others_pass();
+            if locks.pages() == pages {
+                let has_tried = lacked || seat.lack.is_some();
+                locks.let_others_reclaim(shift.worker, has_tried);
+            }
         } else {
-            *seat = EMPTY;
+            seat.let_others_pass();
         }
-        round.hungry = round.hungry || seat.hungry;
+        if seat.hungry {
+            round.hungry = Some(process);
+        }
         next = next.saturating_add(u64::from(shift.workers));
     }
     round
@@ -155,18 +194,33 @@ fn carry_hart<L: Ledger, S: SwapSlot, C: Clock, G: Gate, R: Wait>(
     shift: &Shift,
     seat: &mut Seat,
     rings: u64,
+    reclaimer: &Mutex<Reclaimer<'_>>,
     gate: &G,
 ) -> bool {
+    let locks = shared.locks();
     let mut has_run = false;
     if seat.left == 0 {
         seat.left = shift.slice.max(1);
     }
     for _ in rt.forever() {
-        if !bring_in(rt, shared, process, hart, shift.worker, seat, rings, gate) {
+        if !bring_in(
+            rt,
+            shared,
+            process,
+            hart,
+            shift.worker,
+            seat,
+            rings,
+            reclaimer,
+            gate,
+        ) {
             return has_run;
         }
-        let part = run_part(rt, shared.locks(), process, hart, seat, gate);
-        has_run = has_run || part.ran;
+        let part = run_part(rt, locks, process, hart, seat, gate);
+        if part.ran {
+            has_run = true;
+            locks.end_press(process, hart);
+        }
         if part.is_last {
             return has_run;
         }

@@ -18,12 +18,12 @@ use held_machine::Desk;
 use held_process::Held;
 use machine_limits::{FEWEST_FRAMES, MOST_FRAMES, MOST_PROCESSES};
 use machine_sides::ProcessReport;
-use reclaim_daemon::{AddRefusal, Gate, Shared};
+use reclaim_daemon::{AddRefusal, Gate, Reclaimer, Shared};
 use status_cell::{Status, Viewer};
 use std::alloc::{AllocError, Global};
 use std::marker::Brand;
-use std::sync::Wait;
 use std::sync::ledger::{Blank, Ledger, Share};
+use std::sync::{Mutex, Wait};
 use std::thread::Threads;
 use swap_slots::SwapSlot;
 
@@ -196,14 +196,9 @@ fn run_on<
     let mut viewers = begin_all(alloc, &mut shared, handed)?;
     shared.add_workers(wanted.workers)?;
     shared.set_ahead(wanted.ahead);
-    let crew = run_threads(
-        rt,
-        &shared,
-        viewers.as_mut_slice(),
-        wanted.workers,
-        wanted.slice,
-        gate,
-    );
+    let reclaimer = Mutex::new(Reclaimer::new(viewers.as_mut_slice()));
+    let crew = run_threads(rt, &shared, &reclaimer, wanted.workers, wanted.slice, gate);
+    drop(reclaimer);
     Ok(close(
         rt,
         shared.into_parts(held),

@@ -7,9 +7,9 @@ use hart_signals::PageWait;
 use machine_limits::MOST_LOAD_FAULTS;
 use machine_sides::NotAdmitted;
 use paged_memory::PageInFault;
-use reclaim_daemon::{Gate, HoldOfBoth, PagedIn, ProcessLocks, Shared};
-use std::sync::Wait;
+use reclaim_daemon::{Gate, HoldOfBoth, PagedIn, ProcessLocks, Reclaimer, Room, Shared, pause};
 use std::sync::ledger::Ledger;
+use std::sync::{Mutex, Wait};
 use swap_slots::SwapSlot;
 
 /// What one try for a page came to.
@@ -29,8 +29,8 @@ enum Try {
     Fails(KillCause),
 }
 
-/// Brings in the page that a hart lacks, if it lacks one. Answers whether the hart may go on; else it waits for the page, or its process has
-/// ended.
+/// Brings in the page that a hart lacks, if it lacks one, and makes room for it where it is the worker's turn. Answers whether the hart may go on; else
+/// it waits for the page, or its process has ended.
 pub(crate) fn bring_in<L: Ledger, S: SwapSlot, C: Clock, G: Gate, R: Wait>(
     rt: &R,
     shared: &Shared<L, S, C>,
@@ -39,6 +39,7 @@ pub(crate) fn bring_in<L: Ledger, S: SwapSlot, C: Clock, G: Gate, R: Wait>(
     worker: u32,
     seat: &mut Seat,
     rings: u64,
+    reclaimer: &Mutex<Reclaimer<'_>>,
     gate: &G,
 ) -> bool {
     let locks = shared.locks();
@@ -52,9 +53,7 @@ pub(crate) fn bring_in<L: Ledger, S: SwapSlot, C: Clock, G: Gate, R: Wait>(
         let vpn = lack.vpn;
         match try_page(rt, shared, gate, Key { process, vpn }) {
             Try::Done => {
-                if seat.hungry {
-                    locks.count_page(worker);
-                }
+                locks.count_page(worker);
                 seat.lack = None;
                 seat.hungry = false;
                 locks.set_wait(process, hart, PageWait::Nothing);
@@ -65,15 +64,16 @@ pub(crate) fn bring_in<L: Ledger, S: SwapSlot, C: Clock, G: Gate, R: Wait>(
                 return false;
             }
             Try::NoFrame => {
-                seat.lack = Some(Lack {
-                    told: false,
-                    tried: Some(rings),
-                    ..lack
-                });
-                seat.hungry = true;
-                locks.set_wait(process, hart, PageWait::Frame);
-                locks.set_hungry(worker, true);
-                return false;
+                if !make_room(rt, shared, process, hart, worker, reclaimer, gate) {
+                    seat.lack = Some(Lack {
+                        told: false,
+                        tried: Some(rings),
+                        ..lack
+                    });
+                    seat.hungry = true;
+                    locks.set_wait(process, hart, PageWait::Frame);
+                    return false;
+                }
             }
             // It may have come or gone before it was known that the hart waits for that: so it is tried for once more.
             Try::NotYet if !lack.told => {
@@ -106,6 +106,33 @@ pub(crate) fn bring_in<L: Ledger, S: SwapSlot, C: Clock, G: Gate, R: Wait>(
         }
     }
     unreachable!()
+}
+
+/// Makes room for a hart that found no frame, where it is its worker's turn. Answers whether the page is to be tried for again at once.
+fn make_room<L: Ledger, S: SwapSlot, C: Clock, G: Gate, R: Wait>(
+    rt: &R,
+    shared: &Shared<L, S, C>,
+    process: u32,
+    hart: u32,
+    worker: u32,
+    reclaimer: &Mutex<Reclaimer<'_>>,
+    gate: &G,
+) -> bool {
+    let locks = shared.locks();
+    if !locks.take_turn(worker, process) {
+        return false;
+    }
+    match shared.make_room(rt, reclaimer, gate) {
+        Room::Made => {
+            locks.end_rest();
+            true
+        }
+        Room::Stuck(stuck) => locks.heed_stuck(rt, worker, process, hart, stuck),
+        Room::NoPage => {
+            pause(rt);
+            true
+        }
+    }
 }
 
 /// Whether a process was tried for too often, and is ended by now. A process that is not there counts as ended.

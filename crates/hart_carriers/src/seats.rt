@@ -50,3 +50,15 @@ pub(crate) const EMPTY: Seat = Seat {
 pub(crate) fn seats() -> [Row; MOST_PROCESSES] {
     [[EMPTY; MOST_HARTS]; MOST_PROCESSES]
 }
+
+/// The least process of which a hart waits for a frame, if there is one.
+pub(crate) fn hungry_process(seats: &[Row; MOST_PROCESSES]) -> Option<u32> {
+    for (process, row) in seats.iter().enumerate() {
+        for seat in row.iter() {
+            if seat.hungry {
+                return Some(process as u32);
+            }
+        }
+    }
+    None
+}

@@ -6,10 +6,9 @@ use crate::carrying::carrier;
 use crate::crew::{Carries, Crew, Shift, Writes};
 use clock_policy::Clock;
 use flat_machine::KillCause;
-use reclaim_daemon::{Gate, ProcessLocks, Shared, daemon};
-use status_cell::Viewer;
-use std::sync::Wait;
+use reclaim_daemon::{Gate, ProcessLocks, Reclaimer, Shared, daemon};
 use std::sync::ledger::Ledger;
+use std::sync::{Mutex, Wait};
 use std::thread;
 use std::thread::Threads;
 use swap_slots::SwapSlot;
@@ -26,7 +25,7 @@ pub(crate) fn run_threads<
 >(
     rt: &R,
     shared: &Shared<L, S, C>,
-    viewers: &mut [Viewer],
+    reclaimer: &Mutex<Reclaimer<'_>>,
     workers: u32,
     slice: u32,
     gate: &G,
@@ -36,6 +35,8 @@ pub(crate) fn run_threads<
     ensures few { result.workers ≤ workers }
     ensures all { result.is_whole ≡ true → result.workers ≡ workers }
 {
+    // A closure that writes to nothing outside gets no proof with this toolchain.
+    let mut has_begun = false;
     thread::scope(
         thread::scope_env(),
         rt,
@@ -45,8 +46,9 @@ pub(crate) fn run_threads<
             ensures few { result.workers ≤ workers }
             ensures all { result.is_whole ≡ true → result.workers ≡ workers }
         {
+            has_begun = true;
             let ahead = shared.is_ahead();
-            let makes_room = move || daemon(rt, shared, viewers, gate);
+            let makes_room = move || daemon(rt, shared, reclaimer, gate);
             let mut crew = Crew {
                 workers: 0,
                 slice,
@@ -60,7 +62,9 @@ pub(crate) fn run_threads<
                         workers,
                         slice,
                     };
-                    let carries = move || carrier(rt, shared, worker, workers, slice, gate);
+                    let carries = move || carrier(
+                        rt, shared, worker, workers, slice, reclaimer, gate,
+                    );
                     if scope.spawn_with(Carries(shift), carries).is_ok() {
                         crew.workers += 1;
                     } else {

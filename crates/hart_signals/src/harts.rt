@@ -24,120 +24,87 @@ const FRAME: u64 = 4;
 /// What is added to a word for each turn.
 const TURN: u64 = 8;
 
-/// One hart.
-#[derive(Drop)]
-struct Hart {
-    /// Above 0 where it is live, and its process goes on.
-    live: AtomicU64,
-    /// When its last turn ended, whether that was by a yield, and what the hart waits for. Its own carrier alone writes it.
-    word: AtomicU64,
-}
-
-impl Hart {
-    fn new(live: bool) -> Self {
-        Hart {
-            live: AtomicU64::new(u64::from(live)),
-            word: AtomicU64::new(0),
-        }
-    }
-
-    fn is_live(&self) -> bool {
-        self.live.load(Ordering::SeqCst) != 0
-    }
-
-    fn word(&self) -> u64 {
-        self.word.load(Ordering::SeqCst)
-    }
-
-    /// Answers whether it was not so before.
-    fn set_live(&self, live: bool) -> bool {
-        let changed = self.is_live() != live;
-        if changed {
-            self.live.store(u64::from(live), Ordering::SeqCst);
-        }
-        changed
-    }
-}
-
 /// The harts of a process.
 #[derive(Drop)]
 pub(crate) struct Harts {
+    /// Bit `h` is set where hart `h` is live, and its process goes on.
+    live: AtomicU64,
     /// How many turns have ended, each counted by `TURN`.
     turns: AtomicU64,
-    all: [Hart; MOST_HARTS],
+    /// For each hart: when its last turn ended, whether that was by a yield, and what the hart waits for. Only its own carrier writes it.
+    words: [AtomicU64; MOST_HARTS],
 }
 
 impl Harts {
     /// Those of a process that begins: hart 0 is live.
     pub(crate) fn new() -> Self {
         Harts {
+            live: AtomicU64::new(1),
             turns: AtomicU64::new(0),
-            all: [
-                Hart::new(true),
-                Hart::new(false),
-                Hart::new(false),
-                Hart::new(false),
-                Hart::new(false),
-                Hart::new(false),
-                Hart::new(false),
-                Hart::new(false),
+            words: [
+                AtomicU64::new(0),
+                AtomicU64::new(0),
+                AtomicU64::new(0),
+                AtomicU64::new(0),
+                AtomicU64::new(0),
+                AtomicU64::new(0),
+                AtomicU64::new(0),
+                AtomicU64::new(0),
             ],
         }
     }
 
     /// Which harts are live by now. Answers whether they are others than before.
     pub(crate) fn set_live(&self, live: &[bool; MOST_HARTS]) -> bool {
-        let mut changed = false;
-        for (hart, is_live) in self.all.iter().zip(live.iter()) {
-            if hart.set_live(*is_live) {
-                changed = true;
+        let mut bits = 0;
+        for (number, is_live) in live.iter().enumerate() {
+            if *is_live {
+                bits |= bit(number as u32);
             }
         }
-        changed
+        let has_changed = self.live.load(Ordering::SeqCst) != bits;
+        if has_changed {
+            self.live.store(bits, Ordering::SeqCst);
+        }
+        has_changed
     }
 
     /// Whether a hart is live.
     pub(crate) fn is_live(&self, number: u32) -> bool {
-        match self.all.get(number as usize) {
-            Some(hart) => hart.is_live(),
-            None => false,
-        }
+        self.live.load(Ordering::SeqCst) & bit(number) != 0
+    }
+
+    /// Whether any hart is live.
+    pub(crate) fn has_live(&self) -> bool {
+        self.live.load(Ordering::SeqCst) != 0
     }
 
     /// Whether a hart may be carried: it is live, and where it yielded each other live hart has had a turn since. So harts that wait for one
     /// another by yielding take turns, and none goes round while another one is held up.
     pub(crate) fn may_run(&self, number: u32) -> bool {
-        let Some(hart) = self.all.get(number as usize) else {
-            return false;
-        };
-        if !hart.is_live() {
+        if !self.is_live(number) {
             return false;
         }
-        let word = hart.word();
+        let word = self.word(number);
         if word & YIELDED == 0 {
             return true;
         }
-        for other in self.all.iter() {
+        for other in 0..MOST_HARTS as u32 {
             // The hart's own word is not below itself.
-            if other.is_live() && other.word() < word {
+            if self.is_live(other) && self.word(other) < word {
                 return false;
             }
         }
         true
     }
 
-    /// Whether a hart may be carried and does not wait for a page.
-    pub(crate) fn may_go_on(&self, number: u32) -> bool {
-        self.word(number) & (PAGE | FRAME) == 0 && self.may_run(number)
-    }
-
-    /// Whether a hart is live and waits, for the others to have their turns, for its page or for a frame.
-    pub(crate) fn waits(&self, number: u32) -> bool {
-        self.is_live(number) && self.word(number) & (YIELDED | PAGE | FRAME) != 0
+    /// Whether a hart waits for its page to come or go, or for a frame.
+    pub(crate) fn lacks_page(&self, number: u32) -> bool {
+        self.word(number) & (PAGE | FRAME) != 0
     }
 
     /// Whether a hart is live and waits, for the others to have their turns or for its page to come or go.
-    pub(crate) fn waits_for_page(&self, number: u32) -> bool {
+    pub(crate) fn waits(&self, number: u32) -> bool {
         self.is_live(number) && self.word(number) & (YIELDED | PAGE) != 0
     }
 
@@ -163,15 +130,24 @@ impl Harts {
     }
 
     fn word(&self, number: u32) -> u64 {
-        match self.all.get(number as usize) {
-            Some(hart) => hart.word(),
+        match self.words.get(number as usize) {
+            Some(word) => word.load(Ordering::SeqCst),
             None => 0,
         }
     }
 
     fn set_word(&self, number: u32, value: u64) {
-        if let Some(hart) = self.all.get(number as usize) {
-            hart.word.store(value, Ordering::SeqCst);
+        if let Some(word) = self.words.get(number as usize) {
+            word.store(value, Ordering::SeqCst);
         }
+    }
+}
+
+/// The bit of a hart among those of all harts, or none.
+fn bit(number: u32) -> u64 {
+    if number < MOST_HARTS as u32 {
+        1 << number
+    } else {
+        0
     }
 }

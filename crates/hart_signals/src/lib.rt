@@ -5,11 +5,12 @@
 #![tactic(auto)]
 
 mod bell;
+mod callers;
 mod harts;
-mod offers;
+mod reclaiming;
 mod signals;
 
 pub use bell::Bell;
+pub use callers::Callers;
 pub use harts::PageWait;
-pub use offers::Offers;
-pub use signals::Signals;
+pub use signals::{Runner, Signals};

@@ -11,7 +11,7 @@ use Rattle.page_store.specs.declared.state.State.TheVariants as state
 use Rattle.page_store.specs.declared.state.Keeping.{Keeping as CodeKeeping}
 use Rattle.page_store.specs.declared.state.Keeping.TheVariants as code
 use Rattle.page_store.specs.Keeping.{Keeping, NoSlot, Saved, Unbacked, Cleaning, CopyOut}
-use Rattle.page_store.specs.PageValue.{Place, Fresh, Resident, Leaving, Saving, Away, Purged}
+use Rattle.page_store.specs.PageValue.{PageValue, Place, Fresh, Resident, Leaving, Saving, Away, Purged}
 
 abbrev pub origin_of : Origin → Page
 origin_of (Image page) = page
@@ -41,3 +41,7 @@ place_absent (absent.Away copy) = Away copy
 abbrev pub place_out : {L : Type 0} {S : Type 0} → Out L → Place S
 place_out (out.Resident frame) = Resident frame CopyOut
 place_out (out.Leaving frame mark) = Leaving frame CopyOut mark
+
+-- a page that began so, and is there
+abbrev pub page_of : {L : Type 0} {S : Type 0} → Origin → State L S → PageValue S
+page_of origin state = record { origin = origin_of origin; place = place_in_state state }

@@ -30,21 +30,9 @@ impl<L: Ledger, S: SwapSlot> StoredPage<L, S> {
         ensures backed { OnOk result (Backed S.content false self.new) }
         ensures origin { self.new.origin ≡ self.old.origin }
     {
-        match mem::replace(&mut self.state, State::Purged) {
-            State::Resident(frame, slot) => {
-                let (slot, done) = begin_keeping(slot, dirty, ended);
-                self.state = State::Resident(frame, slot);
-                done
-            }
-            State::ResidentOut(frame) => {
-                self.state = State::ResidentOut(frame);
-                Err(CleanRefusal::AlreadyCleaning)
-            }
-            other => {
-                self.state = other;
-                Err(CleanRefusal::NotResident)
-            }
-        }
+        let (state, done) = mem::replace(&mut self.state, State::Purged).begun(dirty, ended);
+        self.state = state;
+        done
     }
 
     /// Copies a page that is being cleaned, where `dirty` says whether its page-table entry has D, and `marked` whether caches hold
@@ -100,6 +88,30 @@ enum Out<L: Ledger> {
 }
 
 impl<L: Ledger, S: SwapSlot> State<L, S> {
+    /// A cleaning begins.
+    fn begun(self, dirty: bool, ended: bool) -> (Self, Result<(), CleanRefusal>)
+        ensures ok { OnOk result.1 (begun ended dirty (place_in_state self) ≡ Ok (place_in_state result.0)) }
+        ensures refused { IfErr result.1 (λ refusal. begun ended dirty (place_in_state self) ≡ Err refusal) }
+        ensures err { OnErr result.1 (result.0 ≡ self) }
+        ensures shown { (origin : List ℕ) → shown S.content origin (place_in_state result.0) ≡
+            shown S.content origin (place_in_state self) }
+        ensures backed { OnOk result.1 ((origin : List ℕ) → BackedAt S.content origin false (place_in_state result.0)) }
+    {
+        match self {
+            State::Resident(frame, slot) => {
+                let (slot, done) = begin_keeping(slot, dirty, ended);
+                (State::Resident(frame, slot), done)
+            }
+            State::ResidentOut(frame) => {
+                (
+                    State::ResidentOut(frame),
+                    Err(CleanRefusal::AlreadyCleaning),
+                )
+            }
+            other => (other, Err(CleanRefusal::NotResident)),
+        }
+    }
+
     /// What a page has that is being cleaned and of which no copy is out, or else the page as it was.
     fn into_cleaning(self) -> Result<(Frame<L>, Option<S>), Self>
         ensures cleaning { IfOk result (λ cleaning.

@@ -12,7 +12,7 @@ ghost use Rattle.page_store.specs.PageValue.{page_state_of, frame_of, writable, 
 ghost use Rattle.page_store.specs.PageValue.{kept_digest, Matches, is_out, slot_of};
 ghost use Rattle.page_store.specs.PageValue.{fresh_zero_page};
 ghost use Rattle.page_store.specs.Reading.{some_from};
-ghost use Rattle.page_store.specs.View.{keeping_of, place_in_state};
+ghost use Rattle.page_store.specs.View.{keeping_of, origin_of, page_of, place_in_state};
 
 use crate::answer::{Collected, SaveRefusal};
 use crate::job::{SaveJob, SavedJob};
@@ -186,7 +186,7 @@ impl<L: Ledger, S: SwapSlot> StoredPage<L, S> {
 
     /// Brings the page into a frame, from its slot or as it began. From its slot it comes only with the digest of what was
     /// saved. A refusal hands the frame back and leaves the page.
-    pub fn fill(&mut self, mut frame: Frame<L>) -> Result<(), (Frame<L>, FillFault)>
+    pub fn fill(&mut self, frame: Frame<L>) -> Result<(), (Frame<L>, FillFault)>
         ensures filled { OnOk result (Filled frame self.old self.new) }
         ensures whole { OnOk result (Matches self.old.place (content S.content self.new)) }
         ensures digest { kept_digest self.new.place ≡ kept_digest self.old.place }
@@ -200,25 +200,12 @@ impl<L: Ledger, S: SwapSlot> StoredPage<L, S> {
             OnOk result (Backed S.content false self.new) }
         ensures origin { self.new.origin ≡ self.old.origin }
     {
-        match mem::replace(&mut self.state, State::Purged).into_absent() {
-            Ok(Absent::Fresh) => {
-                self.origin.write_to(&mut frame);
-                self.state = State::Resident(frame, Keeping::NoSlot);
-                Ok(())
-            }
-            Ok(Absent::Away(mut copy)) => {
-                if let Err(fault) = copy.load_whole(frame.bytes_mut()) {
-                    self.state = State::Away(copy);
-                    return Err((frame, fault));
-                }
-                self.state = State::Resident(frame, Keeping::Saved(copy));
-                Ok(())
-            }
-            Err(other) => {
-                self.state = other;
-                Err((frame, FillFault::NotAbsent))
-            }
-        }
+        let (state, done) = mem::replace(&mut self.state, State::Purged).filled(
+            &self.origin,
+            frame,
+        );
+        self.state = state;
+        done
     }
 
     /// Begins to leave its frame, with the dirty bit of its page-table entry. A cleaning that has no copy ends.
@@ -231,21 +218,9 @@ impl<L: Ledger, S: SwapSlot> StoredPage<L, S> {
             Backed S.content dirty self.new) }
         ensures origin { self.new.origin ≡ self.old.origin }
     {
-        match mem::replace(&mut self.state, State::Purged) {
-            State::Resident(frame, slot) => {
-                self.state = State::Leaving(frame, slot.settled(), dirty);
-                Ok(())
-            }
-            State::ResidentOut(frame) => {
-                self.state = State::LeavingOut(frame, dirty);
-                Ok(())
-            }
-            other => {
-                let refusal = other.leave_refusal();
-                self.state = other;
-                Err(refusal)
-            }
-        }
+        let (state, done) = mem::replace(&mut self.state, State::Purged).left(dirty);
+        self.state = state;
+        done
     }
 
     /// Ends to leave, with the dirty bit that its entry had when it began to.
@@ -259,20 +234,9 @@ impl<L: Ledger, S: SwapSlot> StoredPage<L, S> {
             Backed S.content dirty self.new) }
         ensures origin { self.new.origin ≡ self.old.origin }
     {
-        match mem::replace(&mut self.state, State::Purged) {
-            State::Leaving(frame, slot, dirty) => {
-                self.state = State::Resident(frame, slot);
-                Ok(dirty)
-            }
-            State::LeavingOut(frame, dirty) => {
-                self.state = State::ResidentOut(frame);
-                Ok(dirty)
-            }
-            other => {
-                self.state = other;
-                Err(NotLeaving)
-            }
-        }
+        let (state, done) = mem::replace(&mut self.state, State::Purged).brought_back();
+        self.state = state;
+        done
     }
 
     /// Looks whether a page that is leaving can let its frame go, where `cached` says whether caches hold translations
@@ -290,27 +254,11 @@ impl<L: Ledger, S: SwapSlot> StoredPage<L, S> {
             content S.content self.old }
         ensures origin { self.new.origin ≡ self.old.origin }
     {
-        match mem::replace(&mut self.state, State::Purged) {
-            State::Leaving(frame, slot, dirty) => {
-                let (state, answer) = collect_leaving(
-                    process,
-                    vpn,
-                    (frame, slot, dirty),
-                    cached,
-                    spare,
-                );
-                self.state = state;
-                answer
-            }
-            State::LeavingOut(frame, dirty) => {
-                self.state = State::LeavingOut(frame, dirty);
-                Collected::NotYet
-            }
-            other => {
-                self.state = other;
-                Collected::NotLeaving
-            }
-        }
+        let (state, answer) = mem::replace(&mut self.state, State::Purged).collected(
+            process, vpn, cached, spare,
+        );
+        self.state = state;
+        answer
     }
 
     /// The same; a copy is made in this room, and the room of the page's frame is left here in its place.
@@ -349,31 +297,9 @@ impl<L: Ledger, S: SwapSlot> StoredPage<L, S> {
         ensures content { S.honest → content S.content self.new ≡ content S.content self.old }
         ensures origin { self.new.origin ≡ self.old.origin }
     {
-        let (frame, dirty) = match mem::replace(&mut self.state, State::Purged).into_saving() {
-            Ok(saving) => saving,
-            Err(other) => {
-                self.state = other;
-                return Err(SaveRefusal::WrongPage(job));
-            }
-        };
-        if !job.is_copy(frame.bytes()) {
-            let (slot, room) = job.into_slot();
-            let frame = Frame::with_room(frame, room);
-            self.state = State::Leaving(frame, Keeping::Unbacked(Some(slot)), dirty);
-            return Err(SaveRefusal::Mismatch);
-        }
-        let (copied, room) = job.into_copy();
-        let frame = Frame::with_room(frame, room);
-        match copied {
-            Ok(copy) => {
-                self.state = State::Away(copy);
-                Ok(frame)
-            }
-            Err(slot) => {
-                self.state = State::Leaving(frame, Keeping::Unbacked(Some(slot)), dirty);
-                Err(SaveRefusal::Device)
-            }
-        }
+        let (state, done) = mem::replace(&mut self.state, State::Purged).saved(job);
+        self.state = state;
+        done
     }
 
     /// The same; the room that the copy was made in is left here, and the frame has the one that was here.
@@ -462,6 +388,140 @@ impl<L: Ledger, S: SwapSlot> StoredPage<L, S> {
             other => {
                 self.state = other;
                 None
+            }
+        }
+    }
+}
+
+impl<L: Ledger, S: SwapSlot> State<L, S> {
+    /// A page that begins so is brought into a frame.
+    fn filled(
+        self,
+        origin: &Origin,
+        mut frame: Frame<L>,
+    ) -> (Self, Result<(), (Frame<L>, FillFault)>)
+        ensures filled { OnOk result.1 (Filled frame (page_of origin.now self) (page_of origin.now result.0)) }
+        ensures whole { OnOk result.1 (Matches (place_in_state self)
+            (shown S.content (origin_of origin.now).bytes (place_in_state result.0))) }
+        ensures digest { kept_digest (place_in_state result.0) ≡ kept_digest (place_in_state self) }
+        ensures passed { OnOk result.1 (failures_at S.failures (place_in_state result.0) ≡
+            failures_at S.failures (place_in_state self)) }
+        ensures refused { IfErr result.1 (λ back.
+            RefusesFill S.honest S.failures frame (place_in_state self) (place_in_state result.0) back.0 back.1) }
+        ensures content { Known S.honest (place_in_state self) →
+            shown S.content (origin_of origin.now).bytes (place_in_state result.0) ≡
+            shown S.content (origin_of origin.now).bytes (place_in_state self) }
+        ensures backed { Known S.honest (place_in_state self) → OnOk result.1
+            (BackedAt S.content (origin_of origin.now).bytes false (place_in_state result.0)) }
+    {
+        match self.into_absent() {
+            Ok(Absent::Fresh) => {
+                origin.write_to(&mut frame);
+                (State::Resident(frame, Keeping::NoSlot), Ok(()))
+            }
+            Ok(Absent::Away(mut copy)) => match copy.load_whole(frame.bytes_mut()) {
+                Ok(()) => (State::Resident(frame, Keeping::Saved(copy)), Ok(())),
+                Err(fault) => (State::Away(copy), Err((frame, fault))),
+            },
+            Err(other) => (other, Err((frame, FillFault::NotAbsent))),
+        }
+    }
+
+    /// It begins to leave.
+    fn left(self, dirty: bool) -> (Self, Result<(), LeaveRefusal>)
+        ensures ok { OnOk result.1 (left dirty (place_in_state self) ≡ Ok (place_in_state result.0)) }
+        ensures refused { IfErr result.1 (λ refusal. left dirty (place_in_state self) ≡ Err refusal) }
+        ensures err { OnErr result.1 (result.0 ≡ self) }
+        ensures shown { (origin : List ℕ) → shown S.content origin (place_in_state result.0) ≡
+            shown S.content origin (place_in_state self) }
+        ensures backed { OnOk result.1 ((origin : List ℕ) →
+            BackedAt S.content origin dirty (place_in_state self) →
+            BackedAt S.content origin dirty (place_in_state result.0)) }
+    {
+        match self {
+            State::Resident(frame, slot) => {
+                (State::Leaving(frame, slot.settled(), dirty), Ok(()))
+            }
+            State::ResidentOut(frame) => (State::LeavingOut(frame, dirty), Ok(())),
+            other => {
+                let refusal = other.leave_refusal();
+                (other, Err(refusal))
+            }
+        }
+    }
+
+    /// It ends to leave.
+    fn brought_back(self) -> (Self, Result<bool, NotLeaving>)
+        ensures ok { IfOk result.1 (λ dirty. brought_back (place_in_state self) ≡
+            Some (place_in_state result.0, dirty)) }
+        ensures refused { IsErr result.1 ↔ (brought_back (place_in_state self) ≡ None) }
+        ensures err { OnErr result.1 (result.0 ≡ self) }
+        ensures shown { (origin : List ℕ) → shown S.content origin (place_in_state result.0) ≡
+            shown S.content origin (place_in_state self) }
+        ensures backed { IfOk result.1 (λ dirty. (origin : List ℕ) →
+            BackedAt S.content origin false (place_in_state self) →
+            BackedAt S.content origin dirty (place_in_state result.0)) }
+    {
+        match self {
+            State::Leaving(frame, slot, dirty) => (State::Resident(frame, slot), Ok(dirty)),
+            State::LeavingOut(frame, dirty) => (State::ResidentOut(frame), Ok(dirty)),
+            other => (other, Err(NotLeaving)),
+        }
+    }
+
+    /// It lets its frame go, where it can.
+    fn collected(
+        self,
+        process: u32,
+        vpn: u32,
+        cached: bool,
+        spare: &mut Option<S>,
+    ) -> (Self, Collected<L, S>)
+        ensures answer { (place_in_state result.0, (spare.new, result.1)) ≡
+            collected process vpn cached (place_in_state self) spare.old }
+        ensures shown { (origin : List ℕ) → BackedAt S.content origin false (place_in_state self) →
+            shown S.content origin (place_in_state result.0) ≡
+            shown S.content origin (place_in_state self) }
+    {
+        match self {
+            State::Leaving(frame, slot, dirty) => {
+                collect_leaving(process, vpn, (frame, slot, dirty), cached, spare)
+            }
+            State::LeavingOut(frame, dirty) => {
+                (State::LeavingOut(frame, dirty), Collected::NotYet)
+            }
+            other => (other, Collected::NotLeaving),
+        }
+    }
+
+    /// Its save ends.
+    fn saved(self, job: SavedJob<S>) -> (Self, Result<Frame<L>, SaveRefusal<S>>)
+        ensures freed { IfOk result.1 (λ frame. IfSaving (place_in_state self) (λ saved _. saved ≡ frame) ×
+            (place_in_state result.0 ≡ Away (copy_of job)) × (frame.bytes ≡ job.copy) × IsTrue job.passed) }
+        ensures refused { IfErr result.1 (RefusesSave job (place_in_state self) (place_in_state result.0)) }
+        ensures shown { S.honest → (origin : List ℕ) → shown S.content origin (place_in_state result.0) ≡
+            shown S.content origin (place_in_state self) }
+    {
+        let (frame, dirty) = match self.into_saving() {
+            Ok(saving) => saving,
+            Err(other) => return (other, Err(SaveRefusal::WrongPage(job))),
+        };
+        if !job.is_copy(frame.bytes()) {
+            let (slot, room) = job.into_slot();
+            let frame = Frame::with_room(frame, room);
+            let kept = Keeping::Unbacked(Some(slot));
+            return (
+                State::Leaving(frame, kept, dirty),
+                Err(SaveRefusal::Mismatch),
+            );
+        }
+        let (copied, room) = job.into_copy();
+        let frame = Frame::with_room(frame, room);
+        match copied {
+            Ok(copy) => (State::Away(copy), Ok(frame)),
+            Err(slot) => {
+                let kept = Keeping::Unbacked(Some(slot));
+                (State::Leaving(frame, kept, dirty), Err(SaveRefusal::Device))
             }
         }
     }

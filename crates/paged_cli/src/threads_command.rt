@@ -13,7 +13,7 @@ use hart_carriers::{CrewRequest, RunReport};
 use image_files::{Fault, Folder, memory_slots, read_processes};
 use reclaim_daemon::{Gate, OpenGate};
 use report_text::{status_of_all, write_report};
-use std::io::Write;
+use std::io::{BufWriter, Write};
 use std::sync::Wait;
 use std::thread::Threads;
 
@@ -71,7 +71,11 @@ where
     if !is_told {
         return run_asked(rt, request, handed, wanted, &OpenGate);
     }
-    let lines = StatusLines::new(rt, err);
+    // The lines of one frame are one write.
+    let Ok(mut told) = BufWriter::new(rt.alloc(), err) else {
+        return Err(Fault::NoMemory);
+    };
+    let lines = StatusLines::new(rt, &mut told);
     run_asked(rt, request, handed, wanted, &lines)
 }
 

@@ -6,46 +6,55 @@ use std::alloc::Global;
 use std::marker::Brand;
 use std::process::Abort;
 use std::sync::ledger::{Blank, Ledger};
-use std::test::Fail;
 
-fn take_all<L: Ledger>(rt: &impl Abort, alloc: Global, blank: Blank) -> Result<(), Fail>
+fn take_all<L: Ledger>(rt: &impl Abort, alloc: Global, blank: Blank)
     requires name { blank.name ≡ L.name }
     requires parts { blank.parts ≡ L.parts }
     requires one_each { L.parts ≡ 5 }
 {
-    let mut pool = FramePool::<L>::new(alloc, 4, blank)?;
-    let mut taken = Vec::with_capacity(alloc, 4)?;
-    let mut numbers = Vec::new(alloc);
+    let mut pool = FramePool::<L>::new(alloc, 4, blank).expect(rt, "a pool");
+    let mut taken = Vec::with_capacity(alloc, 4).expect(rt, "memory");
     for _ in 0..4 {
-        let mut frame = pool.take().ok_or("no frame")?;
-        assert!(rt; frame.bytes() == &[0; 4096]);
-        frame.copy_from(&[7; 4096]);
-        frame.bytes_mut()[1] = 8;
-        assert_eq!(rt; (frame.bytes()[0], frame.bytes()[1]), (7, 8));
-        numbers.push(frame.number())?;
-        taken.push(frame)?;
+        take_one(rt, &mut pool, &mut taken);
     }
-    numbers.sort()?;
-    assert_eq!(rt; numbers.as_slice(), [0, 1, 2, 3].as_slice());
+    all_differ(rt, alloc, taken.as_slice());
     assert!(rt; pool.is_empty());
     assert!(rt; pool.take().is_none());
-    let last = taken.pop().ok_or("none taken")?;
+    let last = taken.pop().expect(rt, "a frame");
     assert!(rt; pool.give(last).is_ok());
     assert_eq!(rt; (pool.len(), pool.size()), (1, 4));
     let (free, mut all) = pool.into_frames();
     gather(free, &mut all);
     gather(taken, &mut all);
-    Ok(())
+}
+
+/// A frame is taken, whose bytes are zeros and may be written.
+fn take_one<L: Ledger>(rt: &impl Abort, pool: &mut FramePool<L>, taken: &mut Vec<Frame<L>>) {
+    let mut frame = pool.take().expect(rt, "a frame");
+    assert!(rt; frame.bytes() == &[0; 4096]);
+    frame.copy_from(&[7; 4096]);
+    frame.bytes_mut()[1] = 8;
+    assert_eq!(rt; (frame.bytes()[0], frame.bytes()[1]), (7, 8));
+    assert!(rt; taken.push(frame).is_ok());
+}
+
+fn all_differ<L: Ledger>(rt: &impl Abort, alloc: Global, taken: &[Frame<L>]) {
+    let mut numbers = Vec::new(alloc);
+    for frame in taken {
+        numbers.push(frame.number()).expect(rt, "memory");
+    }
+    numbers.sort().expect(rt, "memory");
+    assert_eq!(rt; numbers.as_slice(), [0, 1, 2, 3].as_slice());
 }
 
 /// A copy goes along with the frame's room, and comes back with it.
-fn copy_one<L: Ledger>(rt: &impl Abort, alloc: Global, blank: Blank) -> Result<(), Fail>
+fn copy_one<L: Ledger>(rt: &impl Abort, alloc: Global, blank: Blank)
     requires name { blank.name ≡ L.name }
     requires parts { blank.parts ≡ L.parts }
     requires one_each { L.parts ≡ 5 }
 {
-    let mut pool = FramePool::<L>::new(alloc, 4, blank)?;
-    let mut frame = pool.take().ok_or("no frame")?;
+    let mut pool = FramePool::<L>::new(alloc, 4, blank).expect(rt, "no fault");
+    let mut frame = pool.take().expect(rt, "no frame");
     let number = frame.number();
     frame.bytes_mut()[3] = 7;
     let (bare, copy) = frame.copied();
@@ -53,7 +62,6 @@ fn copy_one<L: Ledger>(rt: &impl Abort, alloc: Global, blank: Blank) -> Result<(
     let frame = Frame::with_room(bare, copy);
     assert_eq!(rt; (frame.bare().number(), frame.bytes()[3]), (number, 7));
     assert!(rt; pool.give(frame).is_ok());
-    Ok(())
 }
 
 fn refused<L: Ledger>(alloc: Global, size: u32, blank: Blank) -> Option<PoolError>
@@ -65,13 +73,13 @@ fn refused<L: Ledger>(alloc: Global, size: u32, blank: Blank) -> Option<PoolErro
 }
 
 #[test]
-fn gives_each_frame_once(rt: HostRuntime) -> Result<(), Fail> {
-    take_all::<Brand>(&rt, rt.alloc(), Blank::new(5))
+fn gives_each_frame_once(rt: HostRuntime) {
+    take_all::<Brand>(&rt, rt.alloc(), Blank::new(5));
 }
 
 #[test]
-fn copies_into_its_own_room(rt: HostRuntime) -> Result<(), Fail> {
-    copy_one::<Brand>(&rt, rt.alloc(), Blank::new(5))
+fn copies_into_its_own_room(rt: HostRuntime) {
+    copy_one::<Brand>(&rt, rt.alloc(), Blank::new(5));
 }
 
 #[test]

@@ -2,11 +2,10 @@
 
 use clock_policy::{Entry, EntryKind, Key};
 use page_ring::IndexedRing;
-use std::test::Fail;
 
 #[test]
-fn finds_what_was_put_in(rt: HostRuntime) -> Result<(), Fail> {
-    let mut ring = IndexedRing::new(rt.alloc(), 2)?;
+fn finds_what_was_put_in(rt: HostRuntime) {
+    let mut ring = IndexedRing::new(rt.alloc(), 2).expect(&rt, "no fault");
     let key = Key { process: 1, vpn: 7 };
     let other = Key { process: 7, vpn: 1 };
     assert_eq!(rt; (ring.len(), ring.find(key)), (0, None));
@@ -16,5 +15,4 @@ fn finds_what_was_put_in(rt: HostRuntime) -> Result<(), Fail> {
     });
     assert_eq!(rt; (ring.len(), ring.front()), (1, at));
     assert_eq!(rt; (ring.find(key), ring.find(other)), (Some(at), None));
-    Ok(())
 }

@@ -1,6 +1,5 @@
 //! Slots and their pool.
 
-use std::test::Fail;
 use swap_slots::{FuseSlot, MemorySlot, SlotFault, SlotPool, SwapSlot};
 
 /// Saves a page of a byte, and loads what the slot then gives.
@@ -12,9 +11,9 @@ fn through<S: SwapSlot>(slot: &mut S, byte: u8) -> Result<u8, SlotFault> {
 }
 
 #[test]
-fn slots_give_what_was_saved(rt: HostRuntime) -> Result<(), Fail> {
-    let mut memory = MemorySlot::new(rt.alloc())?;
-    let mut fuse = FuseSlot::new(rt.alloc(), 3)?;
+fn slots_give_what_was_saved(rt: HostRuntime) {
+    let mut memory = MemorySlot::new(rt.alloc()).expect(&rt, "no fault");
+    let mut fuse = FuseSlot::new(rt.alloc(), 3).expect(&rt, "no fault");
     assert_eq!(rt; (through(&mut memory, 7), memory.failures()), (Ok(7), 0));
     assert_eq!(rt; (through(&mut fuse, 7), fuse.failures()), (Ok(7), 0));
     assert_eq!(rt;
@@ -25,21 +24,29 @@ fn slots_give_what_was_saved(rt: HostRuntime) -> Result<(), Fail> {
         (through(&mut fuse, 9), fuse.failures()),
         (Err(SlotFault), 2)
     );
-    Ok(())
 }
 
 #[test]
-fn pool_gives_each_slot_once(rt: HostRuntime) -> Result<(), Fail> {
+fn pool_gives_each_slot_once(rt: HostRuntime) {
     let mut slots = Vec::new(rt.alloc());
-    slots.push(MemorySlot::new(rt.alloc())?)?;
-    slots.push(MemorySlot::new(rt.alloc())?)?;
+    slots
+        .push(MemorySlot::new(rt.alloc()).expect(&rt, "no fault"))
+        .expect(&rt, "no fault");
+    slots
+        .push(MemorySlot::new(rt.alloc()).expect(&rt, "no fault"))
+        .expect(&rt, "no fault");
     let mut pool = SlotPool::new(slots);
-    let slot = pool.take().ok_or("no slot")?;
+    let slot = pool.take().expect(&rt, "no slot");
     assert!(rt; pool.take().is_some());
     assert!(rt; pool.take().is_none() && pool.is_empty());
     assert!(rt; pool.give(slot).is_ok());
     assert_eq!(rt; (pool.len(), pool.size()), (1, 2));
-    assert!(rt; pool.give(MemorySlot::new(rt.alloc())?).is_ok());
-    assert!(rt; pool.give(MemorySlot::new(rt.alloc())?).is_err());
-    Ok(())
+    assert!(rt;
+        pool.give(MemorySlot::new(rt.alloc()).expect(&rt, "no fault"))
+            .is_ok()
+    );
+    assert!(rt;
+        pool.give(MemorySlot::new(rt.alloc()).expect(&rt, "no fault"))
+            .is_err()
+    );
 }

@@ -1,7 +1,7 @@
 //! Page tables of words.
 
 use page_memory::{Access, Rights};
-use std::test::Fail;
+use std::process::Abort;
 use sv32_table::{NoTable, PageTables, Pte, Tables, WalkFault};
 
 #[test]
@@ -12,56 +12,87 @@ fn flags_are_the_manuals(rt: HostRuntime) {
     assert!(rt; Pte(0x14D7).is_dirty() && !Pte(0x1457).is_dirty());
 }
 
-#[test]
-fn a_page_is_mapped_walked_and_unmapped(rt: HostRuntime) -> Result<(), Fail> {
-    let mut tables = Tables::new(rt.alloc())?;
+/// What a walk of page 0x12 faults with, if it does.
+fn fault_of(tables: &mut Tables, access: Access) -> Option<WalkFault> {
+    tables.walk(0x1_2000, access).err()
+}
+
+fn nothing_is_mapped(rt: &impl Abort, tables: &mut Tables) {
     assert_eq!(rt; tables.set(1, 0, 0), Err(NoTable));
-    assert_eq!(rt;
-        tables.walk(0x1_2000, Access::Load).err(),
-        Some(WalkFault::PageFault)
-    );
-    tables.map(0x12, 5, Rights::READ | Rights::WRITE, true)?;
+    assert_eq!(rt; fault_of(tables, Access::Load), Some(WalkFault::PageFault));
+}
+
+fn is_mapped(rt: &impl Abort, tables: &mut Tables) {
+    let mapped = tables.map(0x12, 5, Rights::READ | Rights::WRITE, true);
+    assert!(rt; mapped.is_ok());
     // The word that the root has: a pointer to table 1.
-    tables.set(0, 0, 0x8000_0401)?;
+    assert_eq!(rt; tables.set(0, 0, 0x8000_0401), Ok(()));
     assert_eq!(rt; tables.lookup(0x12), Some(Pte(0x1457)));
-    let leaf = tables.walk(0x1_2000, Access::Store)?;
+}
+
+fn is_walked(rt: &impl Abort, tables: &mut Tables) {
+    let leaf = tables.walk(0x1_2000, Access::Store).expect(rt, "mapped");
     assert_eq!(rt; (leaf.pte, leaf.physical), (Pte(0x14D7), 0x5000));
     assert_eq!(rt; tables.lookup(0x12), Some(Pte(0x14D7)));
-    assert_eq!(rt;
-        tables.walk(0x1_2000, Access::Fetch).err(),
-        Some(WalkFault::PageFault)
-    );
+    assert_eq!(rt; fault_of(tables, Access::Fetch), Some(WalkFault::PageFault));
+}
+
+fn is_cleared(rt: &impl Abort, tables: &mut Tables) {
     assert_eq!(rt; tables.test_and_clear_accessed(0x12), Some(true));
     assert_eq!(rt; tables.test_and_clear_accessed(0x12), Some(false));
     assert_eq!(rt; tables.lookup(0x12), Some(Pte(0x1497)));
-    tables.walk(0x1_2000, Access::Load)?;
+}
+
+fn is_unmapped(rt: &impl Abort, tables: &mut Tables) {
+    assert_eq!(rt; fault_of(tables, Access::Load), None);
     assert_eq!(rt; tables.unmap(0x12), Some(Pte(0x14D7)));
     assert_eq!(rt; (tables.unmap(0x12), tables.lookup(0x12)), (None, None));
-    assert_eq!(rt;
-        tables.walk(0x1_2000, Access::Load).err(),
-        Some(WalkFault::PageFault)
-    );
-    Ok(())
+    assert_eq!(rt; fault_of(tables, Access::Load), Some(WalkFault::PageFault));
 }
 
 #[test]
-fn an_address_is_split(rt: HostRuntime) -> Result<(), Fail> {
-    let mut tables = Tables::new(rt.alloc())?;
-    tables.map(0x7FFFF, 7, Rights::READ, false)?;
-    tables.map(0x12, 5, Rights::READ | Rights::EXECUTE, false)?;
+fn a_page_is_mapped_walked_and_unmapped(rt: HostRuntime) {
+    let mut tables = Tables::new(rt.alloc()).expect(&rt, "memory");
+    nothing_is_mapped(&rt, &mut tables);
+    is_mapped(&rt, &mut tables);
+    is_walked(&rt, &mut tables);
+    is_cleared(&rt, &mut tables);
+    is_unmapped(&rt, &mut tables);
+}
+
+#[test]
+fn an_address_is_split(rt: HostRuntime) {
+    let mut tables = Tables::new(rt.alloc()).expect(&rt, "no fault");
+    tables
+        .map(0x7FFFF, 7, Rights::READ, false)
+        .expect(&rt, "no fault");
+    tables
+        .map(0x12, 5, Rights::READ | Rights::EXECUTE, false)
+        .expect(&rt, "no fault");
     // The words that the root has: pointers to tables 1 and 2.
-    tables.set(0, 0x1FF, 0x8000_0401)?;
-    tables.set(0, 0, 0x8000_0801)?;
+    tables.set(0, 0x1FF, 0x8000_0401).expect(&rt, "no fault");
+    tables.set(0, 0, 0x8000_0801).expect(&rt, "no fault");
     assert_eq!(rt; tables.lookup(0x7FFFF), Some(Pte(0x1C13)));
     assert_eq!(rt; tables.lookup(0x12), Some(Pte(0x141B)));
-    assert_eq!(rt; tables.walk(0x7FFF_FFF0, Access::Load)?.physical, 0x7FF0);
-    assert_eq!(rt; tables.walk(0x1_2ABC, Access::Fetch)?.physical, 0x5ABC);
-    Ok(())
+    assert_eq!(rt;
+        tables
+            .walk(0x7FFF_FFF0, Access::Load)
+            .expect(&rt, "no fault")
+            .physical,
+        0x7FF0
+    );
+    assert_eq!(rt;
+        tables
+            .walk(0x1_2ABC, Access::Fetch)
+            .expect(&rt, "no fault")
+            .physical,
+        0x5ABC
+    );
 }
 
 #[test]
-fn root_words_are_read(rt: HostRuntime) -> Result<(), Fail> {
-    let mut tables = Tables::new(rt.alloc())?;
+fn root_words_are_read(rt: HostRuntime) {
+    let mut tables = Tables::new(rt.alloc()).expect(&rt, "no fault");
     // A superpage, one that is not aligned, a pointer with U, and a pointer to no table.
     let cases = [
         (0x0010_0053, Ok(0x0041_2ABC)),
@@ -70,21 +101,30 @@ fn root_words_are_read(rt: HostRuntime) -> Result<(), Fail> {
         (0x8000_0401, Err(WalkFault::AccessFault)),
     ];
     for (word, answer) in cases {
-        tables.set(0, 0, word)?;
+        tables.set(0, 0, word).expect(&rt, "no fault");
         let walked = tables
             .walk(0x1_2ABC, Access::Load)
             .map(|leaf| leaf.physical);
         assert_eq!(rt; walked, answer, "{word:#x}");
     }
-    Ok(())
 }
 
 #[test]
-fn pages_have_entries_of_their_own(rt: HostRuntime) -> Result<(), Fail> {
-    let mut tables = PageTables::new(rt.alloc())?;
-    tables.map(0x12, 5, Rights::READ | Rights::WRITE, true)?;
-    tables.map(0x13, 6, Rights::READ, true)?;
-    assert_eq!(rt; tables.walk(0x1_2ABC, Access::Store)?.physical, 0x5ABC);
+fn pages_have_entries_of_their_own(rt: HostRuntime) {
+    let mut tables = PageTables::new(rt.alloc()).expect(&rt, "no fault");
+    tables
+        .map(0x12, 5, Rights::READ | Rights::WRITE, true)
+        .expect(&rt, "no fault");
+    tables
+        .map(0x13, 6, Rights::READ, true)
+        .expect(&rt, "no fault");
+    assert_eq!(rt;
+        tables
+            .walk(0x1_2ABC, Access::Store)
+            .expect(&rt, "no fault")
+            .physical,
+        0x5ABC
+    );
     assert_eq!(rt;
         tables.walk(0x1_3000, Access::Store),
         Err(WalkFault::PageFault)
@@ -96,16 +136,16 @@ fn pages_have_entries_of_their_own(rt: HostRuntime) -> Result<(), Fail> {
         (tables.lookup(0x12), tables.lookup(0x13)),
         (None, Some(Pte(0x1813)))
     );
-    Ok(())
 }
 
 #[test]
-fn a_page_is_mapped_again(rt: HostRuntime) -> Result<(), Fail> {
-    let mut tables = PageTables::new(rt.alloc())?;
-    tables.map(0x12, 5, Rights::READ, true)?;
+fn a_page_is_mapped_again(rt: HostRuntime) {
+    let mut tables = PageTables::new(rt.alloc()).expect(&rt, "no fault");
+    tables
+        .map(0x12, 5, Rights::READ, true)
+        .expect(&rt, "no fault");
     tables.unmap(0x12);
     tables.remap(0x12, 6, Rights::READ | Rights::WRITE, false, true);
     assert_eq!(rt; tables.lookup(0x12), Some(Pte(0x1897)));
     assert!(rt; tables.is_dirty(0x12));
-    Ok(())
 }

@@ -38,25 +38,40 @@ fn count<'a, R: Files + AllocGlobal, W: Write, E: Write>(
     out: &mut W,
     err: &mut E,
 ) -> Result<(), Wrong<'a>> {
-    let alloc = rt.alloc();
     let string = curve_string(rt, request, err)?;
-    let lru = lru_curve(alloc, string.as_slice())?;
-    let optimum = if request.has_optimum {
-        optimum_of(alloc, string.as_slice(), lru.len())?
-    } else {
-        Vec::new(alloc)
-    };
-    write_curve(
-        lru.as_slice(),
+    write_counted(rt.alloc(), string.as_slice(), request, out)
+}
+
+fn write_counted<'a, W: Write>(
+    alloc: Global,
+    string: &[Key],
+    request: &CurveRequest<'a>,
+    out: &mut W,
+) -> Result<(), Wrong<'a>> {
+    let lru = lru_curve(alloc, string)?;
+    write_both(alloc, string, lru.as_slice(), request, out)
+}
+
+/// Writes what LRU misses, and what the optimum does where that is asked for.
+fn write_both<'a, W: Write>(
+    alloc: Global,
+    string: &[Key],
+    lru: &[usize],
+    request: &CurveRequest<'a>,
+    out: &mut W,
+) -> Result<(), Wrong<'a>> {
+    let most = if request.has_optimum { lru.len() } else { 0 };
+    let optimum = optimum_of(alloc, string, most)?;
+    Ok(write_curve(
+        lru,
         optimum.as_slice(),
         string.len() as u64,
         request.printing,
         out,
-    )?;
-    Ok(())
+    )?)
 }
 
-/// What the optimum misses with 1, 2 and more frames, up to so many.
+/// What the optimum misses with 1, 2 and more frames, up to so many, or none.
 fn optimum_of(alloc: Global, string: &[Key], pages: usize) -> Result<Vec<usize>, AllocError> {
     match Frames::new(pages) {
         Some(most) => optimum_curve(alloc, string, most),
@@ -72,20 +87,28 @@ fn estimate<'a, R: Files + AllocGlobal, W: Write, E: Write>(
     out: &mut W,
     err: &mut E,
 ) -> Result<(), Wrong<'a>> {
-    let alloc = rt.alloc();
-    let mut trace = open_trace(rt, request.trace, request.format)?;
-    let mut teller = Teller::new(err, request.printing.is_told);
-    let read = read_sample(alloc, &mut trace, one_in, &mut teller);
-    teller.erase();
-    let (sample, references) = read?;
-    let lru = lru_curve(alloc, sample.as_slice())?;
-    write_estimate(
+    let (sample, references) = sample_of(rt, request, one_in, err)?;
+    let lru = lru_curve(rt.alloc(), sample.as_slice())?;
+    Ok(write_estimate(
         lru.as_slice(),
         sample.len() as u64,
         references,
         one_in.get(),
         request.printing,
         out,
-    )?;
-    Ok(())
+    )?)
+}
+
+/// The references of a trace to one page in so many, and how many it has to any. How far it is read is told meanwhile.
+fn sample_of<'a, R: Files + AllocGlobal, E: Write>(
+    rt: &R,
+    request: &CurveRequest<'a>,
+    one_in: NonZeroU32,
+    err: &mut E,
+) -> Result<(Vec<Key>, u64), Wrong<'a>> {
+    let mut trace = open_trace(rt, request.trace, request.format)?;
+    let mut teller = Teller::new(err, request.printing.is_told);
+    let read = read_sample(rt.alloc(), &mut trace, one_in, &mut teller);
+    teller.erase();
+    Ok(read?)
 }

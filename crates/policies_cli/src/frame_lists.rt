@@ -7,6 +7,9 @@ use text_lines::numeral;
 /// How many numbers of frames a list may have.
 const MOST_NUMBERS: usize = 4096;
 
+/// The most frames that a number of them may be.
+const MOST_FRAMES: u32 = 16_777_216;
+
 /// Why a list is none.
 #[derive(Debug, Drop)]
 pub(crate) enum ListFault<'a> {
@@ -23,43 +26,47 @@ impl From<AllocError> for ListFault<'_> {
     }
 }
 
-/// Numbers of frames from the least to the most that are allowed, and ranges of them, parted by commas. A range is `4-64`, each number of
-/// it, or `4-64x2`, each twice as many as the one before.
-pub(crate) fn frames_in<'a>(
-    alloc: Global,
-    list: &'a str,
-    least: u32,
-    most: u32,
-) -> Result<Vec<Frames>, ListFault<'a>> {
+/// Numbers of frames, and ranges of them, parted by commas. A range is `4-64`, each number of it, or `4-64x2`, each twice as many as
+/// the one before.
+pub(crate) fn frames_in<'a>(alloc: Global, list: &'a str) -> Result<Vec<Frames>, ListFault<'a>> {
     let mut all = Vec::new(alloc);
-    for word in list.split(',') {
-        let Some((from, to, times)) = range_of(word, most) else {
-            return Err(ListFault::Word(word));
-        };
-        if from < least || to < from {
-            return Err(ListFault::Word(word));
-        }
-        add_range(&mut all, from, to, times)?;
-    }
+    add_list(&mut all, list)?;
     Ok(all)
 }
 
+fn add_list<'a>(all: &mut Vec<Frames>, list: &'a str) -> Result<(), ListFault<'a>> {
+    for word in list.split(',') {
+        match range_of(word) {
+            Some((from, to, times)) if 1 <= from && from <= to => {
+                add_range(all, from, to, times)?;
+            }
+            _ => return Err(ListFault::Word(word)),
+        }
+    }
+    Ok(())
+}
+
 /// A word's least number, its greatest, and by what each is multiplied to have the next; 1 where each number is meant.
-fn range_of(word: &str, most: u32) -> Option<(u32, u32, u32)> {
+fn range_of(word: &str) -> Option<(u32, u32, u32)> {
     let Some((from, rest)) = word.split_once('-') else {
-        let number = numeral(word.as_bytes(), 10, most)?;
+        let number = frames_of(word)?;
         return Some((number, number, 1));
     };
-    let from = numeral(from.as_bytes(), 10, most)?;
+    let from = frames_of(from)?;
     let Some((to, times)) = rest.split_once('x') else {
-        return Some((from, numeral(rest.as_bytes(), 10, most)?, 1));
+        return Some((from, frames_of(rest)?, 1));
     };
-    let to = numeral(to.as_bytes(), 10, most)?;
-    let times = numeral(times.as_bytes(), 10, most)?;
+    let to = frames_of(to)?;
+    let times = frames_of(times)?;
     if times < 2 {
         return None;
     }
     Some((from, to, times))
+}
+
+/// A number up to the most frames that a policy may have.
+fn frames_of(word: &str) -> Option<u32> {
+    numeral(word.as_bytes(), 10, MOST_FRAMES)
 }
 
 fn add_range<'a>(

@@ -21,12 +21,20 @@ pub(crate) fn run_misses<'a, R: Files + AllocGlobal, W: Write, E: Write>(
     err: &mut E,
 ) -> Result<(), Wrong<'a>> {
     let printing = request.printing;
-    let mut teller = Teller::new(err, printing.is_told);
+    let rows = count_told(rt, request, err)?;
+    Ok(write_table(rows.as_slice(), printing, out)?)
+}
+
+/// How far the count is is told meanwhile.
+fn count_told<'a, R: Files + AllocGlobal, E: Write>(
+    rt: &R,
+    request: MissesRequest<'a>,
+    err: &mut E,
+) -> Result<Vec<PolicyCounts>, Wrong<'a>> {
+    let mut teller = Teller::new(err, request.printing.is_told);
     let counted = count_misses(rt, request, &mut teller);
     teller.erase();
-    let rows = counted?;
-    write_table(rows.as_slice(), printing, out)?;
-    Ok(())
+    counted
 }
 
 /// The rows of the table.

@@ -43,6 +43,16 @@ pub(crate) fn policies_in(list: &str) -> Result<PolicySet, &str> {
     Ok(set)
 }
 
+/// Whether a list has the word.
+pub(crate) fn has_word(list: &str, word: &str) -> bool {
+    for named in list.split(',') {
+        if named == word {
+            return true;
+        }
+    }
+    false
+}
+
 /// Whether the word names a policy, or all.
 fn add(set: &mut PolicySet, word: &str) -> bool {
     match word {

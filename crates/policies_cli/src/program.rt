@@ -65,12 +65,28 @@ fn run_words<'a, R: Files + AllocGlobal, S: AsStr, O: Write, E: Write>(
     out: &mut O,
     err: &mut E,
 ) -> Result<(), Wrong<'a>> {
-    match read_request(rt.alloc(), words)? {
+    run_request(rt, read_request(rt.alloc(), words)?, out, err)
+}
+
+fn run_request<'a, R: Files + AllocGlobal, O: Write, E: Write>(
+    rt: &R,
+    request: PoliciesRequest<'a>,
+    out: &mut O,
+    err: &mut E,
+) -> Result<(), Wrong<'a>> {
+    match request {
         PoliciesRequest::Misses(request) => run_misses(rt, request, out, err),
-        PoliciesRequest::Trace(request) => Ok(run_trace(rt, &request, out)?),
+        PoliciesRequest::Trace(request) => as_wrong(run_trace(rt, &request, out)),
         PoliciesRequest::Replay(request) => run_replay(rt, &request, out, err),
         PoliciesRequest::Curve(request) => run_curve(rt, &request, out, err),
         PoliciesRequest::WriteBacks(request) => run_write_backs(rt, &request, out, err),
         PoliciesRequest::Totals(request) => run_totals(rt, &request, out, err),
+    }
+}
+
+fn as_wrong<'a>(done: Result<(), Fault<'a>>) -> Result<(), Wrong<'a>> {
+    match done {
+        Ok(()) => Ok(()),
+        Err(fault) => Err(Wrong::Fault(fault)),
     }
 }

@@ -4,10 +4,11 @@ use crate::request::ReplayRequest;
 use crate::table::write_table;
 use crate::teller::Teller;
 use crate::wrong::Wrong;
+use clock_policy::Key;
 use image_files::Fault;
 use miss_counts::{PolicyCounts, PolicySet, Row, Stage, StageListener, rows_of};
 use page_policies::Frames;
-use std::alloc::Global;
+use std::alloc::{AllocError, Global};
 use std::io::{BufRead, Write};
 use std::rt::Files;
 use trace_files::{BLOCK, TraceFault, TraceFile, open_trace, read_whole};
@@ -19,12 +20,20 @@ pub(crate) fn run_replay<'a, R: Files + AllocGlobal, W: Write, E: Write>(
     out: &mut W,
     err: &mut E,
 ) -> Result<(), Wrong<'a>> {
+    let rows = count_told(rt, request, err)?;
+    Ok(write_table(rows.as_slice(), request.printing, out)?)
+}
+
+/// How far the count is is told meanwhile.
+fn count_told<'a, R: Files + AllocGlobal, E: Write>(
+    rt: &R,
+    request: &ReplayRequest<'a>,
+    err: &mut E,
+) -> Result<Vec<PolicyCounts>, Wrong<'a>> {
     let mut teller = Teller::new(err, request.printing.is_told);
     let counted = count_trace(rt, request, &mut teller);
     teller.erase();
-    let rows = counted?;
-    write_table(rows.as_slice(), request.printing, out)?;
-    Ok(())
+    counted
 }
 
 fn count_trace<'a, R: Files + AllocGlobal, P: StageListener>(
@@ -58,7 +67,7 @@ fn count_whole<'a, B: BufRead + Drop, P: StageListener>(
     )?)
 }
 
-/// Keeps what the policies keep, and a block of references. What the first references miss that are skipped is not told.
+/// Keeps what the policies keep, and a block of references.
 fn count_as_it_comes<'a, B: BufRead + Drop, P: StageListener>(
     alloc: Global,
     trace: &mut TraceFile<'a, B>,
@@ -66,17 +75,38 @@ fn count_as_it_comes<'a, B: BufRead + Drop, P: StageListener>(
     progress: &mut P,
 ) -> Result<Vec<PolicyCounts>, Wrong<'a>> {
     let mut rows = new_rows(alloc, request.frames.as_slice(), request.wanted)?;
-    play(alloc, trace, &mut rows, request.skip, progress)?;
-    let skipped = counts_of(alloc, rows.as_slice())?;
-    let played = play(alloc, trace, &mut rows, u64::MAX, progress)?;
-    if played == 0 {
-        return Err(Wrong::Trace(TraceFault::Empty(request.trace)));
-    }
+    play_rest(alloc, trace, request, &mut rows, progress)
+}
+
+/// Plays the whole trace. What the first references miss that are skipped is not told.
+fn play_rest<'a, B: BufRead + Drop, P: StageListener>(
+    alloc: Global,
+    trace: &mut TraceFile<'a, B>,
+    request: &ReplayRequest<'a>,
+    rows: &mut Vec<Row>,
+    progress: &mut P,
+) -> Result<Vec<PolicyCounts>, Wrong<'a>> {
+    let skipped = play(alloc, trace, rows, request.skip, progress)?;
     let mut counts = counts_of(alloc, rows.as_slice())?;
-    for (counts, skipped) in counts.iter_mut().zip(skipped.iter()) {
-        *counts = counts.since(*skipped);
+    match play(alloc, trace, rows, u64::MAX, progress) {
+        Ok(0) => Err(none_played(request, skipped)),
+        Ok(_) => {
+            for (counts, row) in counts.iter_mut().zip(rows.iter()) {
+                *counts = row.counts().since(*counts);
+            }
+            Ok(counts)
+        }
+        Err(wrong) => Err(wrong),
     }
-    Ok(counts)
+}
+
+/// Why no reference was played, where so many were skipped.
+fn none_played<'a>(request: &ReplayRequest<'a>, skipped: u64) -> Wrong<'a> {
+    if skipped == 0 {
+        Wrong::Trace(TraceFault::Empty(request.trace))
+    } else {
+        Wrong::AllSkipped(request.skip, request.trace, skipped)
+    }
 }
 
 /// Plays the next references, so many at most, and answers how many there were.
@@ -88,20 +118,35 @@ fn play<'a, B: BufRead + Drop, P: StageListener>(
     progress: &mut P,
 ) -> Result<u64, Wrong<'a>> {
     let mut block = Vec::new(alloc);
+    play_blocks(trace, &mut block, rows, most, progress)
+}
+
+fn play_blocks<'a, B: BufRead + Drop, P: StageListener>(
+    trace: &mut TraceFile<'a, B>,
+    block: &mut Vec<Key>,
+    rows: &mut Vec<Row>,
+    most: u64,
+    progress: &mut P,
+) -> Result<u64, Wrong<'a>> {
     let mut count = 0u64;
     for _ in 0..u64::MAX {
         let left = most.saturating_sub(count).min(BLOCK as u64);
-        trace.fill(&mut block, left as usize)?;
+        trace.fill(block, left as usize)?;
         if block.is_empty() {
             break;
         }
-        for row in rows.iter_mut() {
-            row.play(block.as_slice())?;
-        }
+        play_block(rows, block.as_slice())?;
         count = count.saturating_add(block.len() as u64);
         progress.tell(Stage::References(count));
     }
     Ok(count)
+}
+
+fn play_block<'a>(rows: &mut Vec<Row>, block: &[Key]) -> Result<(), Wrong<'a>> {
+    for row in rows.iter_mut() {
+        row.play(block)?;
+    }
+    Ok(())
 }
 
 fn new_rows<'a>(
@@ -110,12 +155,27 @@ fn new_rows<'a>(
     wanted: PolicySet,
 ) -> Result<Vec<Row>, Wrong<'a>> {
     let mut rows = Vec::new(alloc);
-    for frames in frames {
-        if rows.push(Row::new(alloc, *frames, wanted)?).is_err() {
-            return Err(Wrong::Fault(Fault::NoMemory));
-        }
-    }
+    add_rows(alloc, &mut rows, frames, wanted)?;
     Ok(rows)
+}
+
+fn add_rows<'a>(
+    alloc: Global,
+    rows: &mut Vec<Row>,
+    frames: &[Frames],
+    wanted: PolicySet,
+) -> Result<(), Wrong<'a>> {
+    for frames in frames {
+        add_row(rows, Row::new(alloc, *frames, wanted)?)?;
+    }
+    Ok(())
+}
+
+fn add_row(rows: &mut Vec<Row>, row: Row) -> Result<(), AllocError> {
+    match rows.push(row) {
+        Ok(()) => Ok(()),
+        Err(_) => Err(AllocError),
+    }
 }
 
 fn counts_of<'a>(alloc: Global, rows: &[Row]) -> Result<Vec<PolicyCounts>, Wrong<'a>> {

@@ -3,7 +3,7 @@
 use crate::access_choice::{accesses, is_given};
 use crate::commands::policies;
 use crate::frame_lists::{ListFault, frames_in};
-use crate::policy_names::{NAMES, USUAL, policies_in};
+use crate::policy_names::{NAMES, USUAL, has_word, policies_in};
 use crate::request::{
     CurveRequest, GuestRequest, MissesRequest, PoliciesRequest, Printing, ReplayRequest,
     TotalsRequest, TraceRequest, WriteBacksRequest,
@@ -12,7 +12,7 @@ use crate::wrong::Wrong;
 use clap::ArgMatches;
 use clap::error::ErrorKind;
 use image_files::Fault;
-use machine_limits::{FEWEST_FRAMES, MOST_FRAMES};
+use machine_limits::{MOST_FRAMES, MOST_PROCESSES};
 use miss_counts::{PolicySet, usual_frames};
 use page_policies::Frames;
 use std::alloc::Global;
@@ -21,185 +21,18 @@ use std::num::NonZeroU32;
 use text_lines::numeral;
 use trace_files::TraceFormat;
 
-/// The most frames that a trace is replayed with.
-const MOST_REPLAY_FRAMES: u32 = 16_777_216;
-
-/// What a list of frames may be for guests.
-const GUEST_FRAMES: &str =
-    "numbers from 4 to 4096 or ranges of them, as 4-64 or 4-64x2, parted by commas";
-
-/// What a list of frames may be for a trace.
-const REPLAY_FRAMES: &str =
+/// What a list of frames may be.
+const FRAMES: &str =
     "numbers from 1 to 16777216 or ranges of them, as 4-64 or 4-64x2, parted by commas";
-
-/// The request that the words behind the program's name make.
-pub(crate) fn read_request<'a, S: AsStr>(
-    alloc: Global,
-    words: &'a [S],
-) -> Result<PoliciesRequest<'a>, Wrong<'a>> {
-    let matches = match policies(alloc)?.try_get_matches_from(words) {
-        Ok(matches) => matches,
-        Err(error) => {
-            return Err(match error.kind() {
-                ErrorKind::OutOfMemory => Wrong::Fault(Fault::NoMemory),
-                _ => Wrong::Words(error),
-            });
-        }
-    };
-    match matches.subcommand() {
-        Some(("misses", matches)) => Ok(PoliciesRequest::Misses(misses_request(alloc, matches)?)),
-        Some(("trace", matches)) => Ok(PoliciesRequest::Trace(trace_request(alloc, matches)?)),
-        Some(("replay", matches)) => Ok(PoliciesRequest::Replay(replay_request(alloc, matches)?)),
-        Some(("curve", matches)) => Ok(PoliciesRequest::Curve(curve_request(matches)?)),
-        Some(("write-backs", matches)) => Ok(PoliciesRequest::WriteBacks(write_backs_request(
-            alloc, matches,
-        )?)),
-        Some(("totals", matches)) => Ok(PoliciesRequest::Totals(totals_request(matches)?)),
-        _ => Err(Wrong::Fault(Fault::BadUsage)),
-    }
-}
-
-fn misses_request<'a>(
-    alloc: Global,
-    matches: &ArgMatches<'a>,
-) -> Result<MissesRequest<'a>, Wrong<'a>> {
-    let guest = guest_request(alloc, matches)?;
-    let usual = PolicySet {
-        optimum: true,
-        ..USUAL
-    };
-    let wanted = wanted_policies(matches, usual)?;
-    let frames = match matches.get_str("frames") {
-        Some(list) => Some(guest_frames(alloc, list)?),
-        None => None,
-    };
-    Ok(MissesRequest {
-        guest,
-        frames,
-        wanted,
-        printing: printing(matches),
-    })
-}
-
-fn trace_request<'a>(
-    alloc: Global,
-    matches: &ArgMatches<'a>,
-) -> Result<TraceRequest<'a>, Wrong<'a>> {
-    let guest = guest_request(alloc, matches)?;
-    let format = match matches.get_str("format") {
-        Some(name @ ("lackey" | "dynamorio")) => {
-            return Err(Wrong::Value("format", name, WRITTEN_FORMATS));
-        }
-        _ => format(matches)?,
-    };
-    Ok(TraceRequest { guest, format })
-}
-
-fn replay_request<'a>(
-    alloc: Global,
-    matches: &ArgMatches<'a>,
-) -> Result<ReplayRequest<'a>, Wrong<'a>> {
-    let named = wanted_policies(matches, USUAL)?;
-    let wanted = PolicySet {
-        optimum: named.optimum || is_given(matches, "optimum"),
-        ..named
-    };
-    let frames = trace_frames(alloc, matches, wanted)?;
-    let skip = u64::from(number_from(matches, "skip", 0, 0, u32::MAX, SKIPPED)?);
-    if skip > 0 && wanted.optimum {
-        return Err(Wrong::Together(
-            "skip",
-            "optimum",
-            "what the optimum misses is told of a whole string alone",
-        ));
-    }
-    let format = format(matches)?;
-    let trace = trace(matches)?;
-    Ok(ReplayRequest {
-        frames,
-        format,
-        wanted,
-        skip,
-        printing: printing(matches),
-        trace,
-    })
-}
-
-/// The numbers of frames that a trace is played with.
-fn trace_frames<'a>(
-    alloc: Global,
-    matches: &ArgMatches<'a>,
-    wanted: PolicySet,
-) -> Result<Vec<Frames>, Wrong<'a>> {
-    let frames = match matches.get_str("frames") {
-        Some(list) => replay_frames(alloc, list)?,
-        None => usual_frames(alloc, MOST_FRAMES as usize)?,
-    };
-    refuse_frames(frames.as_slice(), wanted)?;
-    Ok(frames)
-}
-
-fn write_backs_request<'a>(
-    alloc: Global,
-    matches: &ArgMatches<'a>,
-) -> Result<WriteBacksRequest<'a>, Wrong<'a>> {
-    let wanted = wanted_policies(matches, USUAL)?;
-    let wanted = PolicySet {
-        optimum: false,
-        ..wanted
-    };
-    Ok(WriteBacksRequest {
-        frames: trace_frames(alloc, matches, wanted)?,
-        format: format(matches)?,
-        wanted,
-        printing: printing(matches),
-        trace: trace(matches)?,
-    })
-}
-
-fn curve_request<'a>(matches: &ArgMatches<'a>) -> Result<CurveRequest<'a>, Wrong<'a>> {
-    let one_in = number_from(matches, "sample", 0, 1, u32::MAX, SAMPLES)?;
-    let has_optimum = is_given(matches, "optimum");
-    if one_in > 0 && has_optimum {
-        return Err(Wrong::Together(
-            "sample",
-            "optimum",
-            "a sample estimates what LRU misses alone",
-        ));
-    }
-    let is_of_windows = is_given(matches, "working-sets");
-    if is_of_windows && (one_in > 0 || has_optimum) {
-        let other = if has_optimum { "optimum" } else { "sample" };
-        return Err(Wrong::Together("working-sets", other, WORKING_SETS));
-    }
-    Ok(CurveRequest {
-        format: format(matches)?,
-        has_optimum,
-        is_of_windows,
-        one_in: NonZeroU32::new(one_in),
-        printing: printing(matches),
-        trace: trace(matches)?,
-    })
-}
-
-fn totals_request<'a>(matches: &ArgMatches<'a>) -> Result<TotalsRequest<'a>, Wrong<'a>> {
-    Ok(TotalsRequest {
-        format: format(matches)?,
-        is_told: is_given(matches, "progress"),
-        trace: trace(matches)?,
-    })
-}
-
-/// The name of the trace.
-fn trace<'a>(matches: &ArgMatches<'a>) -> Result<&'a str, Wrong<'a>> {
-    match matches.get_str("trace") {
-        Some(trace) => Ok(trace),
-        None => Err(Wrong::Fault(Fault::BadUsage)),
-    }
-}
 
 /// What `--skip` may be.
 const SKIPPED: &str = "a number of references, from 0 to 4294967295";
+
+/// Why the optimum goes with none that are skipped.
+const WHOLE: &str = "what the optimum misses is told of a whole string alone";
+
+/// Why the optimum writes no page back.
+const NO_WRITE_BACKS: &str = "its misses are counted, and not which pages it has in frames";
 
 /// What `--sample` may be.
 const SAMPLES: &str = "one page in so many, from 1 to 4294967295";
@@ -219,35 +52,280 @@ const FORMATS: &str = "text, csv, oraclegeneral, lackey or dynamorio";
 /// What it may be for `trace`.
 const WRITTEN_FORMATS: &str = "text, csv or oraclegeneral";
 
-/// The policies that are named, or else those that are counted where none is.
-fn wanted_policies<'a>(matches: &ArgMatches<'a>, usual: PolicySet) -> Result<PolicySet, Wrong<'a>> {
-    let Some(list) = matches.get_str("policies") else {
-        return Ok(usual);
+/// The request that the words behind the program's name make.
+pub(crate) fn read_request<'a, S: AsStr>(
+    alloc: Global,
+    words: &'a [S],
+) -> Result<PoliciesRequest<'a>, Wrong<'a>> {
+    match policies(alloc)?.try_get_matches_from(words) {
+        Ok(matches) => request_of(alloc, &matches),
+        Err(error) => Err(words_wrong(error)),
+    }
+}
+
+/// Why words are no request.
+fn words_wrong<'a>(error: clap::Error) -> Wrong<'a> {
+    match error.kind() {
+        ErrorKind::OutOfMemory => Wrong::Fault(Fault::NoMemory),
+        _ => Wrong::Words(error),
+    }
+}
+
+fn request_of<'a>(
+    alloc: Global,
+    matches: &ArgMatches<'a>,
+) -> Result<PoliciesRequest<'a>, Wrong<'a>> {
+    match matches.subcommand() {
+        Some(("misses", matches)) => misses_request(alloc, matches),
+        Some(("trace", matches)) => trace_request(alloc, matches),
+        Some(("replay", matches)) => replay_request(alloc, matches),
+        Some(("curve", matches)) => curve_request(matches),
+        Some(("write-backs", matches)) => write_backs_request(alloc, matches),
+        Some(("totals", matches)) => totals_request(matches),
+        _ => Err(Wrong::Fault(Fault::BadUsage)),
+    }
+}
+
+fn misses_request<'a>(
+    alloc: Global,
+    matches: &ArgMatches<'a>,
+) -> Result<PoliciesRequest<'a>, Wrong<'a>> {
+    let usual = PolicySet {
+        optimum: true,
+        ..USUAL
     };
+    let (frames, wanted) = guests_table(alloc, matches, usual)?;
+    let guest = guest_request(alloc, matches)?;
+    Ok(PoliciesRequest::Misses(MissesRequest {
+        guest,
+        frames,
+        wanted,
+        printing: printing(matches),
+    }))
+}
+
+/// The numbers of frames of a table of guests, if they are named, and the policies.
+fn guests_table<'a>(
+    alloc: Global,
+    matches: &ArgMatches<'a>,
+    usual: PolicySet,
+) -> Result<(Option<Vec<Frames>>, PolicySet), Wrong<'a>> {
+    match matches.get_str("frames") {
+        Some(list) => {
+            let frames = listed_frames(alloc, list)?;
+            let wanted = wanted_policies(matches, usual, frames.as_slice())?;
+            Ok((Some(frames), wanted))
+        }
+        None => Ok((None, wanted_policies(matches, usual, &[])?)),
+    }
+}
+
+fn trace_request<'a>(
+    alloc: Global,
+    matches: &ArgMatches<'a>,
+) -> Result<PoliciesRequest<'a>, Wrong<'a>> {
+    let format = written_format(matches)?;
+    let guest = guest_request(alloc, matches)?;
+    Ok(PoliciesRequest::Trace(TraceRequest { guest, format }))
+}
+
+/// The format that a trace is written in.
+fn written_format<'a>(matches: &ArgMatches<'a>) -> Result<TraceFormat, Wrong<'a>> {
+    match matches.get_str("format") {
+        Some(name @ ("lackey" | "dynamorio")) => Err(Wrong::Value("format", name, WRITTEN_FORMATS)),
+        _ => format(matches),
+    }
+}
+
+fn replay_request<'a>(
+    alloc: Global,
+    matches: &ArgMatches<'a>,
+) -> Result<PoliciesRequest<'a>, Wrong<'a>> {
+    let skip = number_from(matches, "skip", 0, 0, u32::MAX, SKIPPED)?;
+    let format = format(matches)?;
+    let trace = trace(matches)?;
+    let frames = trace_frames(alloc, matches)?;
+    let wanted = replayed_policies(matches, frames.as_slice(), skip)?;
+    Ok(PoliciesRequest::Replay(ReplayRequest {
+        frames,
+        format,
+        wanted,
+        skip: u64::from(skip),
+        printing: printing(matches),
+        trace,
+    }))
+}
+
+/// The policies that a trace is played on. The optimum goes with no references that are skipped.
+fn replayed_policies<'a>(
+    matches: &ArgMatches<'a>,
+    frames: &[Frames],
+    skip: u32,
+) -> Result<PolicySet, Wrong<'a>> {
+    let named = wanted_policies(matches, USUAL, frames)?;
+    let wanted = PolicySet {
+        optimum: named.optimum || is_given(matches, "optimum"),
+        ..named
+    };
+    if skip > 0 && wanted.optimum {
+        return Err(Wrong::Together("skip", "optimum", WHOLE));
+    }
+    Ok(wanted)
+}
+
+/// The numbers of frames that a trace is played with.
+fn trace_frames<'a>(alloc: Global, matches: &ArgMatches<'a>) -> Result<Vec<Frames>, Wrong<'a>> {
+    match matches.get_str("frames") {
+        Some(list) => listed_frames(alloc, list),
+        None => Ok(usual_frames(alloc, MOST_FRAMES as usize)?),
+    }
+}
+
+fn write_backs_request<'a>(
+    alloc: Global,
+    matches: &ArgMatches<'a>,
+) -> Result<PoliciesRequest<'a>, Wrong<'a>> {
+    let format = format(matches)?;
+    let trace = trace(matches)?;
+    let frames = trace_frames(alloc, matches)?;
+    let wanted = writing_policies(matches, frames.as_slice())?;
+    Ok(PoliciesRequest::WriteBacks(WriteBacksRequest {
+        frames,
+        format,
+        wanted,
+        printing: printing(matches),
+        trace,
+    }))
+}
+
+/// The policies whose pages are written back: `all` is all but the optimum.
+fn writing_policies<'a>(
+    matches: &ArgMatches<'a>,
+    frames: &[Frames],
+) -> Result<PolicySet, Wrong<'a>> {
+    match matches.get_str("policies") {
+        Some(list) if has_word(list, "optimum") => {
+            return Err(Wrong::Value("policies", "optimum", NO_WRITE_BACKS));
+        }
+        _ => {}
+    }
+    let wanted = wanted_policies(matches, USUAL, frames)?;
+    Ok(PolicySet {
+        optimum: false,
+        ..wanted
+    })
+}
+
+fn curve_request<'a>(matches: &ArgMatches<'a>) -> Result<PoliciesRequest<'a>, Wrong<'a>> {
+    let one_in = number_from(matches, "sample", 0, 1, u32::MAX, SAMPLES)?;
+    let has_optimum = is_given(matches, "optimum");
+    let is_of_windows = is_given(matches, "working-sets");
+    if let Some(wrong) = curves_together(one_in > 0, has_optimum, is_of_windows) {
+        return Err(wrong);
+    }
+    let format = format(matches)?;
+    let trace = trace(matches)?;
+    Ok(PoliciesRequest::Curve(CurveRequest {
+        format,
+        has_optimum,
+        is_of_windows,
+        one_in: NonZeroU32::new(one_in),
+        printing: printing(matches),
+        trace,
+    }))
+}
+
+/// What is wrong with curves that are asked for together, if anything is.
+fn curves_together<'a>(
+    is_sampled: bool,
+    has_optimum: bool,
+    is_of_windows: bool,
+) -> Option<Wrong<'a>> {
+    match (is_of_windows, has_optimum, is_sampled) {
+        (true, true, _) => Some(Wrong::Together("working-sets", "optimum", WORKING_SETS)),
+        (true, false, true) => Some(Wrong::Together("working-sets", "sample", WORKING_SETS)),
+        (false, true, true) => Some(Wrong::Together(
+            "sample",
+            "optimum",
+            "a sample estimates what LRU misses alone",
+        )),
+        _ => None,
+    }
+}
+
+fn totals_request<'a>(matches: &ArgMatches<'a>) -> Result<PoliciesRequest<'a>, Wrong<'a>> {
+    let format = format(matches)?;
+    Ok(PoliciesRequest::Totals(TotalsRequest {
+        format,
+        is_told: is_given(matches, "progress"),
+        trace: trace(matches)?,
+    }))
+}
+
+/// The name of the trace.
+fn trace<'a>(matches: &ArgMatches<'a>) -> Result<&'a str, Wrong<'a>> {
+    match matches.get_str("trace") {
+        Some(trace) => Ok(trace),
+        None => Err(Wrong::Fault(Fault::BadUsage)),
+    }
+}
+
+/// The policies that are named, each of which has to serve these numbers of frames; or else the usual ones that do.
+fn wanted_policies<'a>(
+    matches: &ArgMatches<'a>,
+    usual: PolicySet,
+    frames: &[Frames],
+) -> Result<PolicySet, Wrong<'a>> {
+    let Some(list) = matches.get_str("policies") else {
+        let are_served = first_unserved(frames, usual).is_none();
+        return Ok(PolicySet {
+            clock_pro_used: are_served,
+            ..usual
+        });
+    };
+    let named = named_policies(list)?;
+    match first_unserved(frames, named) {
+        Some(frames) => Err(Wrong::ClockProFrames(frames.number())),
+        None => Ok(named),
+    }
+}
+
+fn named_policies<'a>(list: &'a str) -> Result<PolicySet, Wrong<'a>> {
     match policies_in(list) {
         Ok(set) => Ok(set),
         Err(word) => Err(Wrong::Value("policies", word, NAMES)),
     }
 }
 
-/// CLOCK-Pro's list serves no other numbers of frames than a machine has.
-fn refuse_frames<'a>(frames: &[Frames], wanted: PolicySet) -> Result<(), Wrong<'a>> {
+/// The first number of frames that one of the policies can't have: CLOCK-Pro's list serves those of a machine alone.
+fn first_unserved(frames: &[Frames], wanted: PolicySet) -> Option<Frames> {
     for frames in frames {
         if !wanted.serves(*frames) {
-            return Err(Wrong::ClockProFrames(frames.number()));
+            return Some(*frames);
         }
     }
-    Ok(())
+    None
 }
 
+/// The format that a trace is in: text where none is named.
 fn format<'a>(matches: &ArgMatches<'a>) -> Result<TraceFormat, Wrong<'a>> {
-    match matches.get_str("format") {
-        None | Some("text") => Ok(TraceFormat::Text),
-        Some("csv") => Ok(TraceFormat::Csv),
-        Some("oraclegeneral") => Ok(TraceFormat::OracleGeneral),
-        Some("lackey") => Ok(TraceFormat::Lackey),
-        Some("dynamorio") => Ok(TraceFormat::DynamoRio),
-        Some(other) => Err(Wrong::Value("format", other, FORMATS)),
+    let Some(name) = matches.get_str("format") else {
+        return Ok(TraceFormat::Text);
+    };
+    match format_named(name) {
+        Some(format) => Ok(format),
+        None => Err(Wrong::Value("format", name, FORMATS)),
+    }
+}
+
+fn format_named(name: &str) -> Option<TraceFormat> {
+    match name {
+        "text" => Some(TraceFormat::Text),
+        "csv" => Some(TraceFormat::Csv),
+        "oraclegeneral" => Some(TraceFormat::OracleGeneral),
+        "lackey" => Some(TraceFormat::Lackey),
+        "dynamorio" => Some(TraceFormat::DynamoRio),
+        _ => None,
     }
 }
 
@@ -265,17 +343,24 @@ fn guest_request<'a>(
 ) -> Result<GuestRequest<'a>, Wrong<'a>> {
     let slice = number_from(matches, "slice", 1000, 1, 100_000, SLICES)?;
     let limit = number_from(matches, "limit", 100_000_000, 1, 1_000_000_000, LIMITS)?;
-    let Some(images) = matches.get_strs("image") else {
-        return Err(Wrong::Fault(Fault::BadUsage));
-    };
-    let images = images.to_vec(alloc)?;
+    let accesses = accesses(matches)?;
+    let images = images_in(alloc, matches)?;
     Ok(GuestRequest {
-        accesses: accesses(matches)?,
+        accesses,
         slice,
         limit,
         input: matches.get_str("input"),
         images,
     })
+}
+
+/// The names of the images, as many as a machine has processes at most.
+fn images_in<'a>(alloc: Global, matches: &ArgMatches<'a>) -> Result<Vec<&'a str>, Wrong<'a>> {
+    match matches.get_strs("image") {
+        Some(images) if images.len() > MOST_PROCESSES => Err(Wrong::ManyImages(images.len())),
+        Some(images) => Ok(images.to_vec(alloc)?),
+        None => Err(Wrong::Fault(Fault::BadUsage)),
+    }
 }
 
 /// The number of an option, or what it is where the option is not given.
@@ -296,26 +381,18 @@ fn number_from<'a>(
     }
 }
 
-/// The numbers of frames of a machine that a list has.
-fn guest_frames<'a>(alloc: Global, list: &'a str) -> Result<Vec<Frames>, Wrong<'a>> {
-    match frames_in(alloc, list, FEWEST_FRAMES, MOST_FRAMES) {
-        Ok(frames) => Ok(frames),
-        Err(fault) => Err(list_wrong(fault, list, GUEST_FRAMES)),
-    }
-}
-
 /// The numbers of frames that a list has.
-fn replay_frames<'a>(alloc: Global, list: &'a str) -> Result<Vec<Frames>, Wrong<'a>> {
-    match frames_in(alloc, list, 1, MOST_REPLAY_FRAMES) {
+fn listed_frames<'a>(alloc: Global, list: &'a str) -> Result<Vec<Frames>, Wrong<'a>> {
+    match frames_in(alloc, list) {
         Ok(frames) => Ok(frames),
-        Err(fault) => Err(list_wrong(fault, list, REPLAY_FRAMES)),
+        Err(fault) => Err(list_wrong(fault, list)),
     }
 }
 
-fn list_wrong<'a>(fault: ListFault<'a>, list: &'a str, allowed: &'static str) -> Wrong<'a> {
+fn list_wrong<'a>(fault: ListFault<'a>, list: &'a str) -> Wrong<'a> {
     match fault {
         ListFault::NoMemory => Wrong::Fault(Fault::NoMemory),
-        ListFault::Word(word) => Wrong::Value("frames", word, allowed),
+        ListFault::Word(word) => Wrong::Value("frames", word, FRAMES),
         ListFault::TooMany => Wrong::Value("frames", list, "4096 numbers at most"),
     }
 }

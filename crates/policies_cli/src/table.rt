@@ -277,11 +277,7 @@ pub(crate) fn write_estimate<W: Write>(
         out,
         "# estimate: one page in {one_in}: {pages} pages and {sampled} of {references} references"
     )?;
-    if printing.is_csv {
-        writeln!(out, "frames,lru-estimate")?;
-    } else {
-        writeln!(out, "    frames  lru-estimate")?;
-    }
+    out.write_all(estimate_head(printing).as_bytes())?;
     for (at, misses) in lru.iter().enumerate() {
         let frames = (at as u64)
             .saturating_add(1)
@@ -289,6 +285,15 @@ pub(crate) fn write_estimate<W: Write>(
         write_estimated(frames, *misses as u64, sampled, references, printing, out)?;
     }
     Ok(())
+}
+
+/// The names of an estimate's columns.
+fn estimate_head(printing: Printing) -> &'static str {
+    if printing.is_csv {
+        "frames,lru-estimate\n"
+    } else {
+        "    frames  lru-estimate\n"
+    }
 }
 
 fn write_estimated<W: Write>(
@@ -299,20 +304,29 @@ fn write_estimated<W: Write>(
     printing: Printing,
     out: &mut W,
 ) -> io::Result<()> {
-    if printing.is_csv {
-        write!(out, "{frames},")?;
-    } else {
-        write!(out, "{frames:>10}")?;
-        write_blanks(if printing.is_ratio { 8 } else { 1 }, out)?;
-    }
     if printing.is_ratio {
-        write_ratio(misses, sampled, out)?;
-        return writeln!(out);
+        return write_estimated_ratio(frames, misses, sampled, printing, out);
     }
     let estimate = part_of(misses, sampled, references, 0);
     if printing.is_csv {
-        writeln!(out, "{estimate}")
+        writeln!(out, "{frames},{estimate}")
     } else {
-        writeln!(out, "{estimate:>13}")
+        writeln!(out, "{frames:>10} {estimate:>13}")
     }
+}
+
+fn write_estimated_ratio<W: Write>(
+    frames: u64,
+    misses: u64,
+    sampled: u64,
+    printing: Printing,
+    out: &mut W,
+) -> io::Result<()> {
+    if printing.is_csv {
+        write!(out, "{frames},")?;
+    } else {
+        write!(out, "{frames:>10}        ")?;
+    }
+    write_ratio(misses, sampled, out)?;
+    writeln!(out)
 }

@@ -3,9 +3,9 @@
 use crate::request::TotalsRequest;
 use crate::teller::Teller;
 use crate::wrong::Wrong;
+use clock_policy::Key;
 use image_files::Fault;
 use miss_counts::{Stage, StageListener};
-use std::alloc::Global;
 use std::collections::HashSet;
 use std::io::{BufRead, Write};
 use std::rt::Files;
@@ -28,26 +28,37 @@ pub(crate) fn run_totals<'a, R: Files + AllocGlobal, W: Write, E: Write>(
     out: &mut W,
     err: &mut E,
 ) -> Result<(), Wrong<'a>> {
-    let mut trace = open_trace(rt, request.trace, request.format)?;
-    let mut teller = Teller::new(err, request.is_told);
-    let counted = count(rt.alloc(), &mut trace, &mut teller);
-    teller.erase();
-    let totals = counted?;
+    let totals = count_trace(rt, request, err)?;
     if totals.references == 0 {
         return Err(Wrong::Trace(TraceFault::Empty(request.trace)));
     }
-    writeln!(out, "references {}", totals.references)?;
-    writeln!(out, "writes {}", totals.writes)?;
-    writeln!(out, "pages {}", totals.pages)?;
+    let (references, writes, pages) = (totals.references, totals.writes, totals.pages);
+    writeln!(
+        out,
+        "references {references}\nwrites {writes}\npages {pages}"
+    )?;
     Ok(())
 }
 
+/// Counts a trace as it comes. How far it is counted is told meanwhile.
+fn count_trace<'a, R: Files + AllocGlobal, E: Write>(
+    rt: &R,
+    request: &TotalsRequest<'a>,
+    err: &mut E,
+) -> Result<Totals, Wrong<'a>> {
+    let mut trace = open_trace(rt, request.trace, request.format)?;
+    let mut teller = Teller::new(err, request.is_told);
+    let mut seen = HashSet::new(rt.alloc());
+    let counted = count(&mut trace, &mut seen, &mut teller);
+    teller.erase();
+    counted
+}
+
 fn count<'a, B: BufRead + Drop, P: StageListener>(
-    alloc: Global,
     trace: &mut TraceFile<'a, B>,
+    seen: &mut HashSet<Key>,
     progress: &mut P,
 ) -> Result<Totals, Wrong<'a>> {
-    let mut seen = HashSet::new(alloc);
     let mut references = 0u64;
     let mut writes = 0u64;
     for _ in 0..u64::MAX {

@@ -2,6 +2,7 @@
 
 use crate::guests::read_guests;
 use crate::request::TraceRequest;
+use clock_policy::Key;
 use guest_strings::GuestString;
 use image_files::Fault;
 use miss_counts::{Quiet, pages_of};
@@ -54,7 +55,10 @@ fn write_all_oracle<'a, W: Write>(
     out: &mut W,
 ) -> Result<(), Fault<'a>> {
     let string = pages_of(alloc, guests, &mut Quiet)?;
-    let uses = next_uses(alloc, string.as_slice())?;
-    write_records(string.as_slice(), uses.as_slice(), out)?;
-    Ok(())
+    write_oracle(alloc, string.as_slice(), out)
+}
+
+fn write_oracle<'a, W: Write>(alloc: Global, string: &[Key], out: &mut W) -> Result<(), Fault<'a>> {
+    let uses = next_uses(alloc, string)?;
+    Ok(write_records(string, uses.as_slice(), out)?)
 }

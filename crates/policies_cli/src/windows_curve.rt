@@ -4,6 +4,8 @@ use crate::curve_string::curve_string;
 use crate::request::{CurveRequest, Printing};
 use crate::table::{part_of, write_ratio};
 use crate::wrong::Wrong;
+use clock_policy::Key;
+use std::alloc::Global;
 use std::io;
 use std::io::Write;
 use std::rt::Files;
@@ -17,9 +19,17 @@ pub(crate) fn run_windows<'a, R: Files + AllocGlobal, W: Write, E: Write>(
     err: &mut E,
 ) -> Result<(), Wrong<'a>> {
     let string = curve_string(rt, request, err)?;
-    let curve = window_curve(rt.alloc(), string.as_slice())?;
-    write_windows(curve.as_slice(), string.len() as u64, request.printing, out)?;
-    Ok(())
+    write_counted(rt.alloc(), string.as_slice(), request.printing, out)
+}
+
+fn write_counted<'a, W: Write>(
+    alloc: Global,
+    string: &[Key],
+    printing: Printing,
+    out: &mut W,
+) -> Result<(), Wrong<'a>> {
+    let curve = window_curve(alloc, string)?;
+    Ok(write_windows(curve.as_slice(), string.len() as u64, printing, out)?)
 }
 
 /// Writes a row for a window of 1 reference, of 2 and so on, up to the first with which no fewer miss than with any longer one.

@@ -4,6 +4,7 @@ use crate::request::WriteBacksRequest;
 use crate::table::write_table;
 use crate::teller::Teller;
 use crate::wrong::Wrong;
+use guest_strings::Reference;
 use miss_counts::{PolicyCounts, StageListener};
 use std::io::Write;
 use std::rt::Files;
@@ -17,12 +18,20 @@ pub(crate) fn run_write_backs<'a, R: Files + AllocGlobal, W: Write, E: Write>(
     out: &mut W,
     err: &mut E,
 ) -> Result<(), Wrong<'a>> {
+    let rows = count_told(rt, request, err)?;
+    Ok(write_table(rows.as_slice(), request.printing, out)?)
+}
+
+/// How far the count is is told meanwhile.
+fn count_told<'a, R: Files + AllocGlobal, E: Write>(
+    rt: &R,
+    request: &WriteBacksRequest<'a>,
+    err: &mut E,
+) -> Result<Vec<PolicyCounts>, Wrong<'a>> {
     let mut teller = Teller::new(err, request.printing.is_told);
     let counted = count(rt, request, &mut teller);
     teller.erase();
-    let rows = counted?;
-    write_table(rows.as_slice(), request.printing, out)?;
-    Ok(())
+    counted
 }
 
 fn count<'a, R: Files + AllocGlobal, P: StageListener>(
@@ -30,14 +39,22 @@ fn count<'a, R: Files + AllocGlobal, P: StageListener>(
     request: &WriteBacksRequest<'a>,
     progress: &mut P,
 ) -> Result<Vec<PolicyCounts>, Wrong<'a>> {
-    let alloc = rt.alloc();
-    let mut trace = open_trace(rt, request.trace, request.format)?;
-    let string = read_references(alloc, &mut trace, progress)?;
+    let string = string_of(rt, request, progress)?;
     Ok(write_back_rows(
-        alloc,
+        rt.alloc(),
         request.frames.as_slice(),
         string.as_slice(),
         request.wanted,
         progress,
     )?)
+}
+
+/// The references of the whole trace.
+fn string_of<'a, R: Files + AllocGlobal, P: StageListener>(
+    rt: &R,
+    request: &WriteBacksRequest<'a>,
+    progress: &mut P,
+) -> Result<Vec<Reference>, Wrong<'a>> {
+    let mut trace = open_trace(rt, request.trace, request.format)?;
+    Ok(read_references(rt.alloc(), &mut trace, progress)?)
 }

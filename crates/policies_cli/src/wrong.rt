@@ -25,6 +25,11 @@ pub enum Wrong<'a> {
     ClockProFrames(usize),
     #[error("clock-pro and clock-pro-used have 4 to 4096 frames; name others by --policies")]
     BadSize,
+    #[error("{0} images: 64 run at most")]
+    ManyImages(usize),
+    /// How many references are skipped, of a trace that has so many.
+    #[error("--skip {0}: all {2} references of {1} are skipped")]
+    AllSkipped(u64, &'a str, u64),
     /// What stands in a trace.
     #[error("{0}")]
     Trace(TraceFault<'a>),

@@ -39,7 +39,7 @@ impl<L: Ledger, S: SwapSlot, C: Clock> Shared<L, S, C> {
             hold.slots.after.value) }
     {
         let lock = self.locks.get(key.process)?;
-        let mut held = lock.lock(rt);
+        let mut held = self.locks.lock_first(rt, key.process, lock);
         let mut slots = self.slots.lock(rt);
         let before = Snapshot::of(&*held);
         let slots_before = Snapshot::of(&*slots);

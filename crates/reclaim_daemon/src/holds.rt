@@ -143,11 +143,11 @@ impl<L: Ledger, S: SwapSlot, C: Clock> Shared<L, S, C> {
                     is_lost: true,
                 });
             };
-            if let Some(mut held) = lock_held(rt, lock, rounds) {
+            if let Some(mut held) = lock_held(rt, &self.locks, key.process, lock, rounds) {
                 return Ok(sweep_on(&mut *desk, &mut *held));
             }
             drop(desk);
-            drop(lock.lock(rt));
+            drop(self.locks.lock_first(rt, key.process, lock));
             rounds = rounds.saturating_sub(1);
         }
         unreachable!()
@@ -167,7 +167,7 @@ impl<L: Ledger, S: SwapSlot, C: Clock> Shared<L, S, C> {
             hold.process.after.value hold.slots.before.value hold.slots.after.value hold.reply) }
     {
         let lock = self.locks.get(key.process)?;
-        let (mut desk, mut held) = self.lock_both(rt, lock);
+        let (mut desk, mut held) = self.lock_both(rt, key.process, lock);
         let mut slots = self.slots.lock(rt);
         let found = Found::under(&*desk, &*held, &*slots);
         let reply = desk.collect(&mut *held, key, &mut *slots);
@@ -195,7 +195,7 @@ impl<L: Ledger, S: SwapSlot, C: Clock> Shared<L, S, C> {
     {
         let process = job.process();
         let lock = self.locks.get(process)?;
-        let (mut desk, mut held) = self.lock_both(rt, lock);
+        let (mut desk, mut held) = self.lock_both(rt, process, lock);
         let desk_before = Snapshot::of(&*desk);
         let held_before = Snapshot::of(&*held);
         let reply = desk.saved(&mut *held, job);
@@ -225,7 +225,7 @@ impl<L: Ledger, S: SwapSlot, C: Clock> Shared<L, S, C> {
             hold.slots.after.value hold.reply) }
     {
         let lock = self.locks.get(number)?;
-        let (mut desk, mut held) = self.lock_both(rt, lock);
+        let (mut desk, mut held) = self.lock_both(rt, number, lock);
         let mut slots = self.slots.lock(rt);
         let found = Found::under(&*desk, &*held, &*slots);
         let reply = desk.purge(&mut *held, number, &mut *slots);

@@ -25,5 +25,5 @@ pub use holds::{Change, HoldOfAll, HoldOfBoth, HoldOfDesk};
 pub use paging_in::{HoldOfPager, PagedIn};
 pub use process_holds::HoldOfProcess;
 pub use process_locks::{AddRefusal, Added, ProcessLocks};
-pub use reclaiming::daemon;
+pub use reclaiming::{Reclaimer, Room, daemon, pause};
 pub use shared::Shared;

@@ -60,7 +60,7 @@ impl<L: Ledger, S: SwapSlot, C: Clock> Shared<L, S, C> {
             hold.desk.after.value hold.process.value key hold.reply) }
     {
         let lock = self.locks.get(key.process)?;
-        let (mut desk, held) = self.lock_both(rt, lock);
+        let (mut desk, held) = self.lock_both(rt, key.process, lock);
         let before = Snapshot::of(&*desk);
         let reply = desk.admit(&*held, key);
         let hold = HoldOfPager {
@@ -88,7 +88,7 @@ impl<L: Ledger, S: SwapSlot, C: Clock> Shared<L, S, C> {
     {
         let number = admission.key().process;
         let lock = self.locks.get(number)?;
-        let (mut desk, held) = self.lock_both(rt, lock);
+        let (mut desk, held) = self.lock_both(rt, number, lock);
         let before = Snapshot::of(&*desk);
         let reply = desk.undo(&*held, admission);
         let hold = HoldOfPager {
@@ -99,7 +99,7 @@ impl<L: Ledger, S: SwapSlot, C: Clock> Shared<L, S, C> {
         drop(held);
         drop(desk);
         self.locks.signals().tell_page(number);
-        self.locks.signals().daemon().ring();
+        self.locks.signals().offer(1);
         Some(hold)
     }
 
@@ -134,12 +134,12 @@ impl<L: Ledger, S: SwapSlot, C: Clock> Shared<L, S, C> {
             result.desk.after.value result.process.before.value result.process.after.value
             result.reply }
     {
-        let (mut desk, mut held) = self.lock_both(rt, lock);
+        let (mut desk, mut held) = self.lock_both(rt, key.process, lock);
         let desk_before = Snapshot::of(&*desk);
         let held_before = Snapshot::of(&*held);
         let admitted = desk.admit(&*held, key);
         let desk_changed = Change::since(desk_before, &*desk);
-        let wants_frames = desk.wants_frames();
+        let wants_frames = desk.wants_frames() && desk.pager().counts().pager.free > 0;
         drop(desk);
         self.heed_admission(&admitted, wants_frames);
         let reply = load_admitted(&mut *held, gate, key, admitted);
@@ -150,13 +150,14 @@ impl<L: Ledger, S: SwapSlot, C: Clock> Shared<L, S, C> {
         }
     }
 
-    /// A page was admitted: the daemon is to make room where few frames are free by now, and may clean a page where it writes ahead.
+    /// A page was admitted: the daemon is to make room where few frames are free by now, unless a worker does, and may clean a page where it writes
+    /// ahead. Where none is free whoever needs one makes room.
     fn heed_admission(
         &self,
         admitted: &Option<Result<Admission<L>, NotAdmitted>>,
         wants_frames: bool,
     ) {
-        if !wants_frames && !self.ahead {
+        if !self.ahead && (!wants_frames || self.locks.signals().is_reclaiming()) {
             return;
         }
         if matches!(admitted, Some(Ok(_))) {

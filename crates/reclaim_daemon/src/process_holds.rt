@@ -60,6 +60,7 @@ impl<L: Ledger, S: SwapSlot> ProcessLocks<L, S> {
             hold.reply hold.process.before.value hold.process.after.value) }
     {
         let lock = self.get(number)?;
+        self.let_callers_pass(rt, number);
         let mut held = lock.lock(rt);
         let found = Found::under(&*held);
         let reply = held.slice_of(rt, number, hart, budget);
@@ -84,7 +85,7 @@ impl<L: Ledger, S: SwapSlot> ProcessLocks<L, S> {
             hold.process.before.value hold.process.after.value) }
     {
         let lock = self.get(number)?;
-        let mut held = lock.lock(rt);
+        let mut held = self.lock_first(rt, number, lock);
         let before = Snapshot::of(&*held);
         let reply = held.take_notices_of(number, hart);
         if !reply {
@@ -107,7 +108,7 @@ impl<L: Ledger, S: SwapSlot> ProcessLocks<L, S> {
             hold.process.before.value hold.process.after.value) }
     {
         let lock = self.get(number)?;
-        let mut held = lock.lock(rt);
+        let mut held = self.lock_first(rt, number, lock);
         let found = Found::under(&*held);
         let reply = held.kill_number(rt, number, cause);
         Some(self.publish(number, held, found, reply))
@@ -127,7 +128,7 @@ impl<L: Ledger, S: SwapSlot> ProcessLocks<L, S> {
             hold.process.before.value hold.process.after.value) }
     {
         let lock = self.get(number)?;
-        let mut held = lock.lock(rt);
+        let mut held = self.lock_first(rt, number, lock);
         let found = Found::under(&*held);
         let reply = held.kill_spent(rt, number, self.most_tries());
         Some(self.publish(number, held, found, reply))
@@ -147,7 +148,7 @@ impl<L: Ledger, S: SwapSlot> ProcessLocks<L, S> {
             hold.process.before.value hold.process.after.value) }
     {
         let lock = self.get(number)?;
-        let mut held = lock.lock(rt);
+        let mut held = self.lock_first(rt, number, lock);
         let before = Snapshot::of(&*held);
         let reply = held.begin_clean_of(number, from);
         if reply.is_none() {
@@ -169,8 +170,9 @@ impl<L: Ledger, S: SwapSlot> ProcessLocks<L, S> {
         ensures some { IfSome result (λ hold. CleansWhere job hold.reply
             hold.process.before.value hold.process.after.value) }
     {
-        let lock = self.get(job.process())?;
-        let mut held = lock.lock(rt);
+        let number = job.process();
+        let lock = self.get(number)?;
+        let mut held = self.lock_first(rt, number, lock);
         let before = Snapshot::of(&*held);
         let reply = held.cleaned_of(job);
         if is_lost(&reply) {

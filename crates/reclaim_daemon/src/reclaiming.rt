@@ -1,8 +1,9 @@
-//! The daemon that makes room in a machine whose processes run.
+//! Room for pages: who makes it, and how.
 //!
-//! Where few frames are free, or a page found none, it asks the list until that names a victim, lets the harts of the victim's
-//! process drop their translations, and collects the page; a changed one it saves. A process that has ended it purges. While it has no room
-//! to make it may write changed pages ahead.
+//! The list is asked until it names a victim, the harts of the victim's process drop their translations, and the page is collected; a changed one
+//! is saved. A worker whose hart finds no frame does so for that hart. The daemon does it before, where few frames are free and no worker makes
+//! room; it purges each process that has ended; and while it has no room to make it may write changed pages ahead. One thread at a time does any of
+//! these: the one that has the [`Reclaimer`].
 
 ghost use Rattle.std.specs.Prelude.{◌≡◌};
 
@@ -10,118 +11,170 @@ use crate::gate::Gate;
 use crate::holds::{HoldOfAll, HoldOfBoth};
 use crate::process_locks::ProcessLocks;
 use crate::shared::Shared;
-use crate::waiting::Room;
-use crate::writing_ahead::{Ahead, PAUSE_MILLIS, Rest};
+use crate::writing_ahead::{Ahead, Rest};
 use crate::writing_out::write_slot;
 use clock_policy::{Clock, Key};
 use flat_machine::KillCause;
-use hart_signals::Offers;
 use held_machine::{Collection, SaveReply};
 use machine_limits::{MOST_HARTS, MOST_PROCESSES};
 use machine_sides::Swept;
 use page_store::SaveJob;
 use status_cell::{Status, Viewer};
-use std::sync::Wait;
+use std::sync::atomic::AtomicU64;
 use std::sync::ledger::Ledger;
+use std::sync::{Mutex, Wait};
+use std::time::Duration;
 use swap_slots::SwapSlot;
 
-/// Makes room in a machine until each of its processes has ended and given its pages back. `viewers` are those of its processes, by
-/// rising number.
+/// For how many milliseconds who makes room waits for a hart that was started since the notices, or where the list names no page.
+const SHORT_PAUSE_MILLIS: u64 = 1;
+
+/// What whoever makes room has, one thread at a time: the viewers of the processes, by rising number.
+#[derive(Drop)]
+pub struct Reclaimer<'v> {
+    viewers: &'v mut [Viewer],
+}
+
+impl<'v> Reclaimer<'v> {
+    pub fn new(viewers: &'v mut [Viewer]) -> Self {
+        Reclaimer { viewers }
+    }
+
+    /// A frame has come free: looks at each viewer, with no lock of the machine held, and tells how far each process has come.
+    fn tell_free<G: Gate, R: Wait>(&mut self, rt: &R, gate: &G) {
+        let mut statuses = [Status {
+            steps: 0,
+            output: 0,
+        }; MOST_PROCESSES];
+        let count = self.viewers.len().min(MOST_PROCESSES);
+        for (viewer, status) in self.viewers.iter_mut().zip(statuses.iter_mut()) {
+            *status = viewer.look(rt);
+        }
+        gate.after_free(&statuses[..count]);
+    }
+}
+
+/// What came of room that was to be made for a hart.
+#[derive(Clone, Copy, Debug, PartialEq, Eq)]
+pub enum Room {
+    /// A frame has come free, or was free already.
+    Made,
+    /// A page of this process could not leave its frame.
+    Stuck(u32),
+    /// No page is resident.
+    NoPage,
+}
+
+/// Makes room in a machine until each of its processes has ended and given its pages back.
 ///
-/// It sleeps while there is nothing to do. After each frame that it lets go it looks at each viewer, with no lock held, and tells the
-/// gate. Answers whether it has written changed pages ahead, where there were any.
+/// It sleeps while there is nothing to do. Answers whether it has written changed pages ahead, where there were any.
 pub fn daemon<L: Ledger, S: SwapSlot, C: Clock, G: Gate, R: Wait>(
     rt: &R,
     shared: &Shared<L, S, C>,
-    viewers: &mut [Viewer],
+    reclaimer: &Mutex<Reclaimer<'_>>,
     gate: &G,
 ) -> bool
     ensures { result ≡ shared.now.ahead }
 {
     let is_ahead = shared.is_ahead();
     let mut ahead = Ahead::new();
-    let mut offered = None;
-    let mut offers = Offers::new();
     for _ in rt.forever() {
         let calls = shared.locks().signals().daemon().rings();
         let has_ended = shared.locks().has_ended();
-        purge_ended(rt, shared);
+        let rest = step(rt, shared, reclaimer, gate, &mut ahead);
         if has_ended {
             return is_ahead;
         }
-        let room = shared.room(rt);
-        // Once: a frame that was offered waits for whoever was called, however often the daemon looks meanwhile.
-        if offered != Some((calls, room.free)) {
-            offered = Some((calls, room.free));
-            shared.locks().signals().offer(room.free, &mut offers);
-        }
-        if room.wants_frames {
-            if !make_room(rt, shared, viewers, gate, calls) {
-                shared.locks().wait_for_call(rt, calls);
-            }
-        } else if is_ahead {
-            write_ahead(rt, shared, gate, &room, &mut ahead, calls);
-        } else {
-            shared.locks().wait_for_call(rt, calls);
+        match rest {
+            Rest::Nothing => {}
+            Rest::Nap(millis) => shared.locks().nap(rt, calls, millis),
+            Rest::UntilCalled => shared.locks().wait_for_call(rt, calls),
         }
     }
     unreachable!()
 }
 
-/// Each process that has ended since gives its pages back.
+/// Takes the daemon's next step. Answers what it may do then.
+fn step<L: Ledger, S: SwapSlot, C: Clock, G: Gate, R: Wait>(
+    rt: &R,
+    shared: &Shared<L, S, C>,
+    reclaimer: &Mutex<Reclaimer<'_>>,
+    gate: &G,
+    ahead: &mut Ahead,
+) -> Rest {
+    let mut reclaimer = reclaimer.lock(rt);
+    purge_ended(rt, shared);
+    if shared.locks().signals().is_reclaiming() {
+        return ahead.rest_under_pressure(shared.is_ahead());
+    }
+    let room = shared.frames(rt);
+    if room.wants_frames {
+        return match make_room_once(rt, shared, &mut *reclaimer, gate) {
+            Room::Made => Rest::Nothing,
+            Room::Stuck(_) | Room::NoPage => Rest::UntilCalled,
+        };
+    }
+    if shared.is_ahead() {
+        return ahead.step(rt, shared, gate, &room);
+    }
+    Rest::UntilCalled
+}
+
+/// Each process that has ended since gives its pages back, and their frames are offered.
 fn purge_ended<L: Ledger, S: SwapSlot, C: Clock, R: Wait>(rt: &R, shared: &Shared<L, S, C>) {
+    let mut has_purged = false;
     for number in 0..shared.processes() {
         if shared.locks().signals().take_end(number) {
             shared.purge(rt, number);
+            has_purged = true;
         }
     }
+    if has_purged {
+        let free = shared.frames(rt).free;
+        shared.locks().signals().loosen();
+        shared.locks().signals().offer(free);
+    }
 }
 
-/// Lets the page of a victim go. Answers whether there may be more to do at once: a frame came free; or none did, but a hart waits for one, so
-/// that the next page is tried.
-fn make_room<L: Ledger, S: SwapSlot, C: Clock, G: Gate, R: Wait>(
+impl<L: Ledger, S: SwapSlot, C: Clock> Shared<L, S, C> {
+    /// Makes room for a hart that found no frame, in its worker's turn. Where a process was tried for too often it is ended.
+    pub fn make_room<G: Gate, R: Wait>(
+        &self,
+        rt: &R,
+        reclaimer: &Mutex<Reclaimer<'_>>,
+        gate: &G,
+    ) -> Room {
+        let mut reclaimer = reclaimer.lock(rt);
+        purge_ended(rt, self);
+        if self.frames(rt).free > 0 {
+            return Room::Made;
+        }
+        let room = make_room_once(rt, self, &mut *reclaimer, gate);
+        self.locks().signals().count_try(room == Room::Made);
+        room
+    }
+}
+
+/// Lets the page of a victim go.
+fn make_room_once<L: Ledger, S: SwapSlot, C: Clock, G: Gate, R: Wait>(
     rt: &R,
     shared: &Shared<L, S, C>,
-    viewers: &mut [Viewer],
+    reclaimer: &mut Reclaimer<'_>,
     gate: &G,
-    calls: u64,
-) -> bool {
+) -> Room {
     let Some(victim) = find_victim(rt, shared) else {
-        return false;
+        return Room::NoPage;
     };
-    if let_go(rt, shared, gate, victim) {
-        tell_free(rt, viewers, gate);
-        return true;
+    if !let_go(rt, shared, gate, victim) {
+        return Room::Stuck(victim.process);
     }
-    if !shared.locks().signals().is_hungry() {
-        return false;
-    }
-    if shared.locks().signals().watch(victim.process) {
-        shared.locks().wait_for_call(rt, calls);
-    }
-    true
+    reclaimer.tell_free(rt, gate);
+    Room::Made
 }
 
-/// Takes one step in writing changed pages ahead, or sleeps where none is to be taken. While a hart waits for a frame none is: who has just got one
-/// is to find the next free again, or its pages leave before it has all that an instruction needs.
-fn write_ahead<L: Ledger, S: SwapSlot, C: Clock, G: Gate, R: Wait>(
-    rt: &R,
-    shared: &Shared<L, S, C>,
-    gate: &G,
-    room: &Room,
-    ahead: &mut Ahead,
-    calls: u64,
-) {
-    let rest = if shared.locks().signals().is_hungry() {
-        Rest::Nap(PAUSE_MILLIS)
-    } else {
-        ahead.step(rt, shared, gate, room)
-    };
-    match rest {
-        Rest::Nothing => {}
-        Rest::Nap(millis) => shared.locks().nap(rt, calls, millis),
-        Rest::UntilCalled => shared.locks().wait_for_call(rt, calls),
-    }
+/// Waits for a short while.
+pub fn pause<R: Wait>(rt: &R) {
+    AtomicU64::new(0).park_timeout(rt, 0, Duration::from_millis(SHORT_PAUSE_MILLIS));
 }
 
 /// Asks the list until it names a victim. There is none where no page is resident.
@@ -150,7 +203,6 @@ fn let_go<L: Ledger, S: SwapSlot, C: Clock, G: Gate, R: Wait>(
     key: Key,
 ) -> bool {
     for _ in rt.forever() {
-        let calls = shared.locks().signals().daemon().rings();
         give_notices(rt, shared.locks(), key.process);
         let Some(hold) = shared.collect(rt, key) else {
             return false;
@@ -160,11 +212,8 @@ fn let_go<L: Ledger, S: SwapSlot, C: Clock, G: Gate, R: Wait>(
             return false;
         };
         match found {
-            Collection::NotYet => {
-                // A hart that was started since may have it: it takes notice with its next slice.
-                shared.locks().signals().watch(key.process);
-                shared.locks().wait_for_call(rt, calls);
-            }
+            // A hart that was started since may have it: it takes notice with its next slice, or now.
+            Collection::NotYet => pause(rt),
             Collection::Freed => return true,
             Collection::Dirty(job) => return save(rt, shared, gate, job),
             Collection::NoSlot => {
@@ -194,13 +243,13 @@ pub(crate) fn give_notices<L: Ledger, S: SwapSlot, R: Wait>(
     }
 }
 
-/// A page of a process could not leave its frame. Where a hart waits for one, that may end the process.
+/// A page of a process could not leave its frame. Where room is made for a hart, that may end the process.
 fn kill_if_spent<L: Ledger, S: SwapSlot, R: Wait>(
     rt: &R,
     locks: &ProcessLocks<L, S>,
     process: u32,
 ) {
-    if locks.signals().is_hungry() {
+    if locks.signals().is_reclaiming() {
         locks.kill_if_spent(rt, process);
     }
 }
@@ -232,17 +281,4 @@ fn save<L: Ledger, S: SwapSlot, C: Clock, G: Gate, R: Wait>(
         }
         SaveReply::Stray | SaveReply::WrongPage(_) => false,
     }
-}
-
-/// A frame has come free: tells how far each process has come.
-fn tell_free<G: Gate, R: Wait>(rt: &R, viewers: &mut [Viewer], gate: &G) {
-    let mut statuses = [Status {
-        steps: 0,
-        output: 0,
-    }; MOST_PROCESSES];
-    let count = viewers.len().min(MOST_PROCESSES);
-    for (viewer, status) in viewers.iter_mut().zip(statuses.iter_mut()) {
-        *status = viewer.look(rt);
-    }
-    gate.after_free(&statuses[..count]);
 }

@@ -3,7 +3,7 @@
 use crate::process_locks::ProcessLocks;
 use crate::shared::Shared;
 use clock_policy::Clock;
-use hart_signals::{Bell, PageWait};
+use hart_signals::{Bell, PageWait, Runner};
 use held_process::Held;
 use machine_limits::MOST_HARTS;
 use space_core::Space;
@@ -16,9 +16,12 @@ use swap_slots::SwapSlot;
 /// its bell.
 const NAP_MILLIS: u64 = 60_000;
 
+/// After how many tries in a row that made no room harts rest. Until then the process whose page could not leave gets on each time.
+const FIRST_TRIES: u64 = 16;
+
 /// What the daemon sees of the machine's frames.
 #[derive(Clone, Copy)]
-pub(crate) struct Room {
+pub(crate) struct Frames {
     pub(crate) frames: u32,
     /// How many of them are free.
     pub(crate) free: usize,
@@ -38,11 +41,11 @@ pub(crate) struct News {
 }
 
 impl<L: Ledger, S: SwapSlot, C: Clock> Shared<L, S, C> {
-    /// What room there is.
-    pub(crate) fn room<R: Wait>(&self, rt: &R) -> Room {
+    /// What frames there are.
+    pub(crate) fn frames<R: Wait>(&self, rt: &R) -> Frames {
         let desk = self.desk.lock(rt);
         let counts = desk.pager().counts().pager;
-        Room {
+        Frames {
             frames: desk.pager().size(),
             free: counts.free,
             wants_frames: desk.wants_frames(),
@@ -62,7 +65,13 @@ impl<L: Ledger, S: SwapSlot> ProcessLocks<L, S> {
         self.signals().is_live(number, hart)
     }
 
-    /// Whether a hart of a process may be carried: it is live, and where it yielded each other live hart of the process has had a turn since.
+    /// Whether any hart of a process is live, as far as is known without its lock.
+    pub fn has_live(&self, number: u32) -> bool {
+        self.signals().has_live(number)
+    }
+
+    /// Whether a hart of a process may be carried: it is live, harts may run, and where it yielded each other live hart of the process has had a turn
+    /// since.
     /// No lock is taken to know that, so that nobody waits for a process whose other harts run only to find that this one may not.
     pub fn may_run(&self, number: u32, hart: u32) -> bool {
         self.signals().may_run(number, hart)
@@ -78,14 +87,119 @@ impl<L: Ledger, S: SwapSlot> ProcessLocks<L, S> {
         self.signals().set_wait(number, hart, wait);
     }
 
-    /// A worker has a hart that waits for a frame, or none any more.
-    pub fn set_hungry(&self, worker: u32, hungry: bool) {
-        self.signals().set_hungry(worker, hungry);
+    /// A page of the process `stuck` could not leave while a worker makes room for this hart. Answers whether the worker goes on to make room: else it has
+    /// given the turn to another one, and the hart waits.
+    ///
+    /// A process that is not the hart's gets on meanwhile, so that it is not tried for too often for another one's sake. Where that has made no room 16
+    /// times no hart runs until a frame is free, as none runs while room is made where one thread runs all.
+    pub fn heed_stuck<R: Wait>(
+        &self,
+        rt: &R,
+        worker: u32,
+        number: u32,
+        hart: u32,
+        stuck: u32,
+    ) -> bool {
+        let signals = self.signals();
+        if signals.failed_tries() > FIRST_TRIES {
+            signals.begin_rest();
+            return true;
+        }
+        if stuck == number {
+            signals.press(number, hart);
+            return true;
+        }
+        let rings = self.rings(worker);
+        match signals.watch(stuck, worker) {
+            None => true,
+            Some(Runner::Another) => {
+                self.wait_for_ring(rt, worker, rings);
+                true
+            }
+            Some(Runner::Itself) => {
+                signals.add_hungry(worker, number);
+                signals.ring_worker(u64::from(worker));
+                false
+            }
+        }
     }
 
-    /// A page has come in for a hart that a worker carries, which had waited for a frame.
+    /// An instruction of a hart has run that waited for a frame: the other harts of its process may run again.
+    pub fn end_press(&self, number: u32, hart: u32) {
+        self.signals().end_press(number, hart);
+    }
+
+    /// The least process of which a worker has a hart that waits for a frame, if there is one.
+    pub fn set_hungry(&self, worker: u32, process: Option<u32>) {
+        self.signals().set_hungry(worker, process);
+    }
+
+    /// Whether a worker that found no frame may make room for a hart of a process: it has the turn, or nobody has, and it is not another one's turn. Else
+    /// it is hungry from now on, and is rung once it has the turn.
+    pub fn take_turn(&self, worker: u32, process: u32) -> bool {
+        let signals = self.signals();
+        if signals.take_turn(worker) && !signals.is_turn_over(worker, process) {
+            return true;
+        }
+        signals.add_hungry(worker, process);
+        if signals.has_turn(worker) {
+            signals.pass_turn(worker);
+            return false;
+        }
+        // Whoever gave the turn back before may not have seen that this worker is hungry.
+        if signals.take_turn(worker) {
+            if !signals.is_turn_over(worker, process) {
+                return true;
+            }
+            signals.pass_turn(worker);
+        }
+        false
+    }
+
+    /// Whether it is a worker's turn to make room.
+    pub fn has_turn(&self, worker: u32) -> bool {
+        self.signals().has_turn(worker)
+    }
+
+    /// The process for which a worker waits for a frame, if it does.
+    pub fn hungry_for(&self, worker: u32) -> Option<u32> {
+        self.signals().hungry_for(worker)
+    }
+
+    /// How many pages have come in for the worker whose turn it is.
+    pub fn pages(&self) -> u64 {
+        self.signals().pages()
+    }
+
+    /// A page has come in for a hart that a worker carries, which counts where it is the worker's turn.
     pub fn count_page(&self, worker: u32) {
-        self.signals().count_page(worker);
+        if self.signals().has_turn(worker) {
+            self.signals().count_page();
+        }
+    }
+
+    /// A worker gives the turn back, to the next one that waits for a frame.
+    pub fn pass_turn(&self, worker: u32) {
+        self.signals().pass_turn(worker);
+    }
+
+    /// A hart's turn is over in which no page came in: where its worker has the turn to make room, and that hart has tried for a page or no other hart
+    /// of the worker waits for a frame, the next worker gets it that waits for one.
+    pub fn let_others_reclaim(&self, worker: u32, has_tried: bool) {
+        let signals = self.signals();
+        if !signals.has_turn(worker) {
+            return;
+        }
+        if has_tried || signals.hungry_for(worker).is_none() {
+            if signals.others_wait(worker) {
+                signals.pass_turn(worker);
+            }
+        }
+    }
+
+    /// Harts may run again.
+    pub fn end_rest(&self) {
+        self.signals().end_rest();
     }
 
     /// How often a worker's bell has rung. Read it before you look for what there is to do.
@@ -160,6 +274,6 @@ fn live_harts<L: Ledger, S: SwapSlot>(side: &Space<L, S>) -> [bool; MOST_HARTS] 
 }
 
 /// The low 32 bits of a word.
-fn low_half(word: u64) -> u32 {
+pub(crate) fn low_half(word: u64) -> u32 {
     (word & 0xffff_ffff) as u32
 }

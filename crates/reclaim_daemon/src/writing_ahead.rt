@@ -8,7 +8,7 @@ use crate::gate::Gate;
 use crate::process_locks::ProcessLocks;
 use crate::reclaiming::give_notices;
 use crate::shared::Shared;
-use crate::waiting::Room;
+use crate::waiting::Frames;
 use crate::writing_out::write_slot;
 use clock_policy::{Clock, Key};
 use held_process::Begun;
@@ -18,7 +18,7 @@ use std::sync::ledger::Ledger;
 use swap_slots::SwapSlot;
 
 /// For how many milliseconds a pause lasts, unless the daemon is called.
-pub(crate) const PAUSE_MILLIS: u64 = 2;
+const PAUSE_MILLIS: u64 = 2;
 
 /// For how many pauses a page waits for its copy at most.
 const MOST_PAUSES: u32 = 16;
@@ -84,13 +84,23 @@ impl Ahead {
         }
     }
 
+    /// What the daemon may do while a worker makes room. It cleans no page then: who has just got a frame is to find the next one free again, or its
+    /// pages leave before it has all that an instruction needs.
+    pub(crate) fn rest_under_pressure(&self, is_ahead: bool) -> Rest {
+        if is_ahead {
+            Rest::Nap(LONGEST_NAP_MILLIS)
+        } else {
+            Rest::UntilCalled
+        }
+    }
+
     /// Takes the next step: a page's cleaning begins, waits, or comes to its end.
     pub(crate) fn step<L: Ledger, S: SwapSlot, C: Clock, G: Gate, R: Wait>(
         &mut self,
         rt: &R,
         shared: &Shared<L, S, C>,
         gate: &G,
-        room: &Room,
+        room: &Frames,
     ) -> Rest {
         let Some(key) = self.begun else {
             return self.begin(rt, shared, room);
@@ -124,7 +134,7 @@ impl Ahead {
         &mut self,
         rt: &R,
         shared: &Shared<L, S, C>,
-        room: &Room,
+        room: &Frames,
     ) -> Rest {
         if self.page_ins != room.page_ins {
             self.page_ins = room.page_ins;

@@ -10,33 +10,75 @@ use paged_memory::PageStatus;
 use std::io::Write;
 use std::{fmt, io};
 
-/// Writes what stands in a scene behind its event: the picture, of the processes what is not as in the picture before.
+/// Writes what stands in a scene behind its event, and ends its line: the picture, or where there is one before it what is not as there.
 pub(crate) fn write_picture<W: Write>(
     picture: &Picture,
     before: Option<&Picture>,
     out: &mut W,
 ) -> io::Result<()> {
-    write_pages(picture, out)?;
-    write_list(picture, out)?;
-    write_counts(picture, out)?;
+    write_pages(picture.pages.as_slice(), pages_before(before), out)?;
+    if !before.is_some_and(|old| has_same_list(picture, old)) {
+        write_list(picture, out)?;
+    }
+    if !before.is_some_and(|old| picture.counts == old.counts) {
+        write_counts(picture, out)?;
+    }
+    if !before.is_some_and(|old| picture.written == old.written) {
+        write_written(picture.written.as_slice(), out)?;
+    }
+    if !before.is_some_and(|old| picture.processes == old.processes) {
+        write!(out, ",\"processes\":[")?;
+        write_processes(picture.processes.as_slice(), before, out)?;
+        write!(out, "]")?;
+    }
+    writeln!(out, "}}")
+}
+
+fn pages_before(before: Option<&Picture>) -> &[ShownPage] {
+    match before {
+        Some(picture) => picture.pages.as_slice(),
+        None => [].as_slice(),
+    }
+}
+
+fn has_same_list(picture: &Picture, old: &Picture) -> bool {
+    picture.entries == old.entries && picture.hands == old.hands
+}
+
+fn write_written<W: Write>(written: &[usize], out: &mut W) -> io::Result<()> {
     write!(out, ",\"written\":[")?;
     let mut comma = "";
-    for count in picture.written.as_slice() {
+    for count in written {
         write!(out, "{comma}{count}")?;
         comma = ",";
     }
-    write!(out, "],\"processes\":[")?;
-    write_processes(picture.processes.as_slice(), before, out)?;
-    write!(out, "]}}")
+    write!(out, "]")
 }
 
-fn write_pages<W: Write>(picture: &Picture, out: &mut W) -> io::Result<()> {
+/// The first page, if there is one, and those behind it.
+fn first_of(pages: &[ShownPage]) -> (Option<&ShownPage>, &[ShownPage]) {
+    match pages.split_first() {
+        Some((first, others)) => (Some(first), others),
+        None => (None, pages),
+    }
+}
+
+/// Writes the pages that are not as in the picture before, if there are any. A page keeps its place in a film.
+fn write_pages<W: Write>(pages: &[ShownPage], old: &[ShownPage], out: &mut W) -> io::Result<()> {
+    if pages == old && !old.is_empty() {
+        return Ok(());
+    }
     write!(out, ",\"pages\":[")?;
     let mut comma = "";
-    for page in picture.pages.as_slice() {
-        write!(out, "{comma}")?;
-        write_page(*page, out)?;
-        comma = ",";
+    let mut rest = old;
+    for page in pages {
+        let (before, others) = first_of(rest);
+        if before != Some(page) {
+            write!(out, "{comma}")?;
+            write_page(*page, out)?;
+            comma = ",";
+        }
+        rest = others;
     }
     write!(out, "]")
 }

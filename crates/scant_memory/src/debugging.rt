@@ -33,10 +33,10 @@ fn stops_as_told<T: Target>(alloc: Global, debugger: Debugger<T>) -> Result<bool
 
 /// Why the debugger stops, again where it was refused memory: the steps before that stand.
 fn go<T: Target>(debugger: &mut Debugger<T>, limit: u64) -> Result<Why, AllocError> {
-    if let Ok((why, _)) = debugger.go(limit) {
+    if let Ok((why, _, _)) = debugger.go(limit) {
         return Ok(why);
     }
-    let (why, _) = debugger.go(limit)?;
+    let (why, _, _) = debugger.go(limit)?;
     Ok(why)
 }
 

@@ -12,7 +12,7 @@ ghost use Rattle.serial_commands.specs.Debugged.{IfLinesEnd, IsTold};
 use clock_ring::ClockRing;
 use command_line::DebugRequest;
 use debug_core::{Debugger, Target};
-use debug_session::{SessionFault, converse};
+use debug_session::{Dialect, SessionFault, converse};
 use elf_image::Image;
 use flat_machine::FlatProcess;
 use image_files::{Fault, Folder, memory_slots, read_image};
@@ -42,7 +42,15 @@ pub fn run_debug<'a, R: Folder + AllocGlobal, I: Read + Drop, W: Write>(
 {
     let image = read_image(rt, request.image)?;
     let none = Vec::new(rt.alloc());
-    match debug_on(rt.alloc(), request.frames, image, none, input, out) {
+    match debug_on(
+        rt.alloc(),
+        Dialect::Plain,
+        request.frames,
+        image,
+        none,
+        input,
+        out,
+    ) {
         Ok(()) => Ok(()),
         Err(fault) => Err(fault_of(fault)),
     }
@@ -60,10 +68,11 @@ fn fault_of<'a>(fault: SessionFault) -> Fault<'a>
     }
 }
 
-/// Answers the lines of an input with a debugger of a new process, which runs an image on an input of its own: on flat memory, or on so
-/// many frames. It ends with the lines, or at one that is bad, which is then the fault.
+/// Answers the lines of an input that a dialect has with a debugger of a new process, which runs an image on an input of its own: on
+/// flat memory, or on so many frames. It ends with the lines, or at one that is bad, which is then the fault.
 pub fn debug_on<I: Read + Drop, W: Write>(
     alloc: Global,
+    dialect: Dialect,
     frames: Option<u32>,
     image: Image,
     given: Vec<u8>,
@@ -71,36 +80,38 @@ pub fn debug_on<I: Read + Drop, W: Write>(
     out: &mut W,
 ) -> Result<(), SessionFault>
     requires { IfSome frames (IsFrom least_frames most_frames) }
-    ensures { IfLinesEnd result (ConversesOver frames image given.items (I.remaining input)
+    ensures { IfLinesEnd result (ConversesOver dialect frames image given.items (I.remaining input)
         (W.contents out.old) (W.contents out.new)) }
 {
     match frames {
-        None => debug_flat(alloc, &image, given, input, out),
+        None => debug_flat(alloc, dialect, &image, given, input, out),
         Some(frames) => {
             let blank = Blank::new(u64::from(frames) + 1);
-            debug_paged::<Brand, I, W>(alloc, frames, blank, image, given, input, out)
+            debug_paged::<Brand, I, W>(alloc, dialect, frames, blank, image, given, input, out)
         }
     }
 }
 
 fn debug_flat<I: Read + Drop, W: Write>(
     alloc: Global,
+    dialect: Dialect,
     image: &Image,
     given: Vec<u8>,
     input: I,
     out: &mut W,
 ) -> Result<(), SessionFault>
-    ensures { IfLinesEnd result (ConversesOver None image.now given.items (I.remaining input)
-        (W.contents out.old) (W.contents out.new)) }
+    ensures { IfLinesEnd result (ConversesOver dialect None image.now given.items
+        (I.remaining input) (W.contents out.old) (W.contents out.new)) }
 {
     let Ok(process) = FlatProcess::new(alloc, image, given) else {
         return Err(SessionFault::NoMemory);
     };
-    debug(alloc, process, input, out)
+    debug(alloc, dialect, process, input, out)
 }
 
 fn debug_paged<L: Ledger, I: Read + Drop, W: Write>(
     alloc: Global,
+    dialect: Dialect,
     frames: u32,
     blank: Blank,
     image: Image,
@@ -113,8 +124,8 @@ fn debug_paged<L: Ledger, I: Read + Drop, W: Write>(
     requires one_each { L.parts ≡ frames + 1 }
     requires least { 4 ≤ frames }
     requires most { frames ≤ 4096 }
-    ensures { IfLinesEnd result (ConversesOver (Some frames) image given.items (I.remaining input)
-        (W.contents out.old) (W.contents out.new)) }
+    ensures { IfLinesEnd result (ConversesOver dialect (Some frames) image given.items
+        (I.remaining input) (W.contents out.old) (W.contents out.new)) }
 {
     let Ok(slots) = memory_slots(alloc, SLOTS) else {
         return Err(SessionFault::NoMemory);
@@ -123,19 +134,20 @@ fn debug_paged<L: Ledger, I: Read + Drop, W: Write>(
     else {
         return Err(SessionFault::NoMemory);
     };
-    debug(alloc, target, input, out)
+    debug(alloc, dialect, target, input, out)
 }
 
 /// Answers the lines of an input with a new debugger of a target.
 fn debug<T: Target, I: Read + Drop, W: Write>(
     alloc: Global,
+    dialect: Dialect,
     target: T,
     input: I,
     out: &mut W,
 ) -> Result<(), SessionFault>
-    ensures { (end : DebuggerValue T) × HasConversed T.shown T.limits result (I.remaining input)
-        (new_debugger T.shown target) (W.contents out.old) end (W.contents out.new) }
+    ensures { (end : DebuggerValue T) × HasConversed dialect T.shown T.limits result
+        (I.remaining input) (new_debugger T.shown target) (W.contents out.old) end (W.contents out.new) }
 {
     let mut debugger = Debugger::new(target);
-    converse(alloc, &mut debugger, input, out)
+    converse(alloc, dialect, &mut debugger, input, out)
 }

@@ -1,5 +1,5 @@
 -- When a hart's instruction is served on, and when it is given up.
-use Rattle.std.proofs.Common.{◌≡◌, ◌∙◌, ℕ, ◌+◌, Bool, true, false, List, [], ◌∷◌, ◌++◌, length, Option, Some, None, All, inl, inr, ap, append_assoc, arith, refl, suc, subst, sym}
+use Rattle.std.proofs.Common.{◌≡◌, ◌∙◌, ℕ, ◌+◌, Bool, true, false, List, [], ◌∷◌, ◌++◌, length, Option, Some, None, ap, append_assoc, arith, refl, suc, subst, sym}
 use Rattle.std.specs.Prelude.{◌≢◌, ◌^◌, if◌then◌else◌}
 use Rattle.std.proofs.lemmas.List.Elements.{All-append, All-cons, All-nil}
 use Rattle.std.proofs.Math.ListN.{length-append}
@@ -16,9 +16,9 @@ use Rattle.machine_core.specs.declared.event.Reply.{Reply}
 use Rattle.machine_core.specs.declared.event.Reply.TheVariants as reply
 use Rattle.serial_driver.specs.Closing.{is_limit_kill}
 use Rattle.serial_driver.specs.Endings.{HasEnded}
-use Rattle.serial_driver.specs.Limit.{ComeInTurn, PlaysOn, PlaysWith}
+use Rattle.serial_driver.specs.Limit.{ComeInTurn, PlaysWith}
 use Rattle.serial_driver.specs.Nexts.{is_step, IsNext}
-use Rattle.serial_driver.specs.Owing.{Duty, Pays, ArePaid, collect_owes, duty_after, duty_with, is_absent, is_damaged, is_device, is_dirty, is_only_owed, is_full, is_mapped, is_no_memory, is_out_of_memory, load_owes, most_load_faults, next_owed, save_owes, step_owes}
+use Rattle.serial_driver.specs.Owing.{Duty, Pays, ArePaid, collect_owes, duty_after, duty_with, is_absent, is_damaged, is_device, is_dirty, is_only_owed, is_full, is_mapped, is_no_memory, is_out_of_memory, load_owes, next_owed, save_owes, step_owes}
 use Rattle.serial_driver.specs.Patience.{IsPatient, is_served, spent_after, spent_with, tried_after, tried_with}
 use Rattle.serial_driver.specs.Serving.{is_giving_up, is_paging, owes_pages, GivesUpFor, GivesUpFrom, GoesTooFar, IsServing, Lasts, Proceeds}
 use Rattle.serial_driver.specs.Serving.GivesUpFor.{ends, over, refuses}
@@ -29,7 +29,7 @@ use Rattle.serial_driver.specs.declared.turns.Next.TheVariants.{Steps, Event as 
 use Rattle.serial_driver.proofs.InTurn.{in_turn_none, in_turn_on, in_turn_one, in_turn_runs}
 use Rattle.serial_driver.proofs.Limited.{plays_one}
 use Rattle.serial_driver.proofs.Owed.{duty_on, paid_on}
-use Rattle.serial_driver.proofs.Tried.{after_on, spent_on}
+use Rattle.serial_driver.proofs.Tried.{spent_on}
 
 -- ---- whose turn it is
 

@@ -1,5 +1,5 @@
 -- Events that come in turn, one after another.
-use Rattle.std.proofs.Common.{◌≡◌, ℕ, zero, suc, ◌+◌, ◌-◌, ◌≤◌, ◌==◌, max, Bool, true, false, List, [], ◌∷◌, ◌++◌, length, Option, Some, None, replicate, refl, sym, ap, arith, subst}
+use Rattle.std.proofs.Common.{◌≡◌, ℕ, zero, suc, ◌-◌, ◌≤◌, ◌==◌, max, Bool, true, false, List, [], ◌∷◌, ◌++◌, Option, Some, None, replicate, refl, arith, subst}
 use Rattle.std.specs.Prelude.{if◌then◌else◌}
 use Rattle.machine_core.specs.Applying.{Applies, Runs}
 use Rattle.machine_core.specs.Machine.{CoreValue}

@@ -6,11 +6,15 @@ pub mod GivingUp
 pub mod InTurn
 pub mod Limited
 pub mod LiveHarts
+pub mod Moves
 pub mod Next
 pub mod Owed
 pub mod Reached
+pub mod Recorded
 pub mod Rounds
+pub mod StepsLimited
 pub mod Stopped
 pub mod Tried
+pub mod UnlimitedRuns
 pub mod Watching
 mod OutOwed

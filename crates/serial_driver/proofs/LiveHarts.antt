@@ -1,9 +1,8 @@
 -- Where slots are honest, a process that goes on has a live hart.
-use Rattle.std.proofs.Common.{◌≡◌, ℕ, ◌<◌, ◌≤◌, ◌&&◌, Bool, true, false, List, length, Option, Some, None, IsSome, slice_get, inl, inr, refl, sym, ap, ◌∙◌, arith, subst}
+use Rattle.std.proofs.Common.{◌≡◌, ℕ, ◌<◌, ◌≤◌, ◌&&◌, Bool, true, false, List, length, Option, Some, None, IsSome, slice_get, inl, inr, refl, arith}
 use Rattle.std.specs.Prelude.{slice_index_or}
 use Rattle.env_calls.specs.Environment.{any_live, next_live}
 use Rattle.env_calls.specs.LiveLaws.{next_is_live, next_is_some}
-use Rattle.flat_machine.specs.Process.{IsWhole}
 use Rattle.flat_machine.specs.Schedule.{written_out}
 use Rattle.flat_machine.specs.StepLaws.{marked_within}
 use Rattle.machine_core.specs.Coherent.{EachCoherent}

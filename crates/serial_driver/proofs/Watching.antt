@@ -9,7 +9,6 @@ use Rattle.serial_driver.specs.Owing.{no_duty, owed_save}
 use Rattle.serial_driver.specs.Patience.{IsPatient, tries_per_frame}
 use Rattle.serial_driver.specs.TurnsDuty.{duty_of, stage_owes}
 use Rattle.serial_driver.specs.Watched.{HasPlayed, unsaved_of}
-use Rattle.serial_driver.specs.declared.patience.Patience.{Patience}
 use Rattle.serial_driver.specs.declared.watched.SerialRun.{SerialRun}
 use Rattle.serial_driver.proofs.Limited.{plays_none, plays_more}
 use Rattle.serial_driver.proofs.OutOwed.{all_saved}

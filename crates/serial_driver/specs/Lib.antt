@@ -9,6 +9,7 @@ pub mod Patience
 pub mod Reporting
 pub mod Rounds
 pub mod Serving
+pub mod StepsLimit
 pub mod Turning
 pub mod TurnsDuty
 pub mod Watched

@@ -1,5 +1,5 @@
 -- A process on flat memory keeps a live hart, whatever its harts run.
-use Rattle.std.proofs.Common.{◌≡◌, ℕ, Bool, true, false, List, [], ◌∷◌, Option, Some, None, option_map, refl, sym, ap, ◌∙◌, subst}
+use Rattle.std.proofs.Common.{◌≡◌, ℕ, Bool, true, false, List, [], ◌∷◌, Option, Some, None, option_map, refl, subst}
 use Rattle.std.specs.Prelude.{option_and_then, if◌then◌else◌}
 use Rattle.elf_image.specs.Image.{ImageContent}
 use Rattle.rv_exec.specs.Registers.{Registers}

@@ -12,10 +12,12 @@ mod patience;
 mod reporting;
 mod serial;
 mod serving;
+mod steps;
 mod turns;
 mod watched;
 
 pub use reporting::{NoReport, audit, into_report, run_serial};
 pub use serial::play;
 pub use serving::{ServedStep, serve_step};
+pub use steps::play_steps;
 pub use watched::SerialRun;

@@ -102,7 +102,7 @@ pub(crate) fn what_is_next<L: Ledger, S: SwapSlot, C: Clock>(
 }
 
 /// Does what comes next, and tells how many events that was.
-fn act<L: Ledger, S: SwapSlot, C: Clock>(
+pub(crate) fn act<L: Ledger, S: SwapSlot, C: Clock>(
     core: &mut Core<L, S, C>,
     turns: &mut Turns,
     patience: &mut Patience,

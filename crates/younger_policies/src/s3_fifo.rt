@@ -80,6 +80,15 @@ fn clear_count(freq: &mut HashMap<Key, u8>, page: Key)
     freq.remove(&page);
 }
 
+/// A page that leaves needs no count where that is 0: one that is not kept is 0 too.
+fn forget_unused(freq: &mut HashMap<Key, u8>, page: Key)
+    ensures { (q : Key) → known (get is_page freq.new q) ≡ known (get is_page freq.old q) }
+{
+    if count_of(freq, page) == 0 {
+        clear_count(freq, page);
+    }
+}
+
 /// How many frames the main queue has.
 fn main_frames(frames: usize) -> usize
     ensures { result ≡ main_frames frames }
@@ -108,12 +117,14 @@ impl S3Fifo {
         }
     }
 
-    /// The page at the tail of the main queue leaves.
+    /// The page at the tail of the main queue leaves, with its count.
     fn drop_main_tail(&mut self)
         ensures queues { queues_of self.new ≡ main_out (queues_of self.old) }
         ensures frames { self.new.frames ≡ self.old.frames }
     {
-        self.main.pop();
+        if let Some(page) = self.main.pop() {
+            forget_unused(&mut self.freq, page);
+        }
     }
 
     /// The page at the tail of the main queue goes to its head, and its count falls.

@@ -4,7 +4,7 @@ use Rattle.page_memory.specs.Memory.{unreserved}
 use Rattle.debug_core.specs.Debugging.{first_moment}
 use Rattle.debug_core.specs.Limits.{CannotRecord}
 use Rattle.debug_core.specs.Stops.{IsFullAt, Moment}
-use Rattle.debug_core.proofs.Passing.{advances_by, passes_none, passes_more, seen_nothing, stops_as}
+use Rattle.debug_core.proofs.Passing.{advances_by, last_of_more, last_of_none, passes_none, passes_more, seen_nothing, stops_as}
 use Rattle.debug_core.proofs.Room.{room_first, room_here, room_more}
 use Rattle.debug_core.proofs.running.run.Goals as goal
 
@@ -15,6 +15,7 @@ steps-init g c = record {
   seen = seen_nothing c.args.points.now c.requires.few c.requires.points;
   room = refl;
   recorded = room_first (g.T.Target.limits c.args.target.now) (first_moment (g.T.Target.shown c.args.target.now) c.args.turn.now);
+  last = last_of_none (first_moment (g.T.Target.shown c.args.target.now) c.args.turn.now);
   live = c.requires.live;
 }
 
@@ -39,6 +40,7 @@ steps-preserved g c =
       recorded =
           room_more (limits c.args.target.now) (limits c.steps.target) (limits c.advance.new.target) c.steps.done first now c.steps.invariant.passes.reached c.steps.invariant.recorded
           (c.in-Ok-None.ensures.recorded c.in-Ok-None.field-0-is);
+      last = last_of_more c.steps.done first now c.steps.invariant.passes.reached;
       live = c.in-Ok-None.ensures.live;
     }
 

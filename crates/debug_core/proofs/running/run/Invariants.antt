@@ -1,9 +1,9 @@
-use Rattle.std.proofs.Common.{◌≡◌, ◌-◌, true, length}
+use Rattle.std.proofs.Common.{◌≡◌, ◌-◌, true, length, Some}
 use Rattle.page_memory.specs.Memory.{Memory}
 use Rattle.flat_machine.specs.Process.{is_live}
 use Rattle.debug_core.specs.Debugging.{first_moment}
 use Rattle.debug_core.specs.Seen.{AreSeen}
-use Rattle.debug_core.specs.Stops.{Passes}
+use Rattle.debug_core.specs.Stops.{last_hart, Passes}
 use Rattle.debug_core.proofs.Room.{RoomAfter}
 use Rattle.debug_core.proofs.running.run.Given as goal
 
@@ -20,5 +20,6 @@ invariant-steps g l =
       seen : AreSeen l.points l.seen was;
       room : length l.seen ≡ 32;
       recorded : RoomAfter (g.T.Target.limits l.fn.target) (g.T.Target.limits l.target) l.done (first_moment (shown l.fn.target) l.fn.turn);
+      last : last_hart l.done (first_moment (shown l.fn.target) l.fn.turn) ≡ Some l.last;
       live : is_live l.turn (shown l.target) ≡ true;
     }

@@ -1,5 +1,5 @@
 -- Pages are brought in by one event after another, until the instruction is settled.
-use Rattle.std.proofs.Common.{◌≡◌, ◌+◌, ◌-◌, ◌*◌, ◌^◌, ℕ, Option, Some, None, arith, ap, ◌∙◌, inl, inr, refl, subst, sym}
+use Rattle.std.proofs.Common.{◌≡◌, ◌+◌, ◌-◌, ◌*◌, ◌^◌, ℕ, Some, None, arith, ap, inl, inr, refl, subst, sym}
 use Rattle.serial_driver.specs.Owing.{Duty}
 use Rattle.serial_driver.specs.Patience.{tried_after, tries_per_frame, IsPatient}
 use Rattle.serial_driver.specs.Serving.{owes_pages, serving, IsServing, Proceeds}

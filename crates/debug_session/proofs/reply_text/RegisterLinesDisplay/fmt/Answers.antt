@@ -1,4 +1,4 @@
-use Rattle.std.proofs.Common.{◌++◌, ◌+◌, ◌∙◌, ap, arith, codes, rules, sym}
+use Rattle.std.proofs.Common.{◌++◌, ◌∙◌, ap, arith, codes, rules, sym}
 use Rattle.std.proofs.Output.{has_written_append, has_written_of_eq}
 use Rattle.std.proofs.lemmas.Grind.{common_steps}
 use Rattle.debug_session.specs.ReplyText.{register_lines, word_text}

@@ -7,7 +7,7 @@ use Rattle.guest_profile.proofs.ListedKeys.{all_keys, moved}
 use Rattle.guest_profile.proofs.call_counts.CallCounts.sites.Goals as goal
 
 flips : (one other : CallSite) → is_call one other ≡ is_call other one
-flips one other = λ i. nat_eq_equiv.symm one.site other.site i && nat_eq_equiv.symm one.callee other.callee i
+flips one other = λ i. nat_eq_equiv.symm one.site other.site i && (nat_eq_equiv.symm one.callee other.callee i && (nat_eq_equiv.symm one.from_level other.from_level i && nat_eq_equiv.symm one.level other.level i))
 
 pub returns-clause-all : goal.returns-clause-all
 returns-clause-all c =

@@ -1,5 +1,5 @@
 -- Where nothing is owed, an event that ends no process may come.
-use Rattle.std.proofs.Common.{◌≡◌, sym, ap, subst, ◌∙◌}
+use Rattle.std.proofs.Common.{ap, ◌∙◌}
 use Rattle.serial_driver.specs.TurnsDuty.{duty_of, phase_of, stage_owes, turn_of}
 use Rattle.serial_driver.proofs.Next.{ordinary_next, steps_next, may_run, may_begin, may_rest}
 use Rattle.serial_driver.proofs.turns.Turns.next.Goals as goal

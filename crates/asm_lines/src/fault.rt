@@ -1,3 +1,5 @@
+//! What can be wrong with a line of source, with the number of each fault.
+
 ghost use Rattle.std.specs.Prelude.{◌≡◌};
 ghost use Rattle.asm_lines.specs.Faults.{fault_number};
 
@@ -19,10 +21,10 @@ pub enum FaultKind {
     /// A number or a distance that its field cannot hold.
     #[error("a number out of range")]
     Range,
-    /// A label that stands a second time.
+    /// A label that is there a second time.
     #[error("a label that stands twice")]
     LabelTwice,
-    /// A label that stands nowhere.
+    /// A label that is nowhere.
     #[error("a label that stands nowhere")]
     NoLabel,
     /// More than 65536 words of text or 1048576 bytes of data.

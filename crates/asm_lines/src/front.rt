@@ -1,6 +1,8 @@
+//! What is at the front of a text: a token and the rest, bytes that are no token, or the end.
+
 use crate::token::Token;
 
-/// What stands at the front of a text.
+/// What is at the front of a text.
 #[derive(Drop)]
 pub enum Front<'a> {
     /// No token: the text ends, or a comment begins.

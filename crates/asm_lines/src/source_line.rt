@@ -1,3 +1,5 @@
+//! A line of source by its form: labels, the name of a statement, and operands.
+
 use crate::operand::Operand;
 use crate::span::Span;
 

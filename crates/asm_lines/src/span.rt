@@ -1,8 +1,10 @@
+//! A stretch of the source text, without a copy of its bytes.
+
 ghost use Rattle.std.specs.Prelude.{◌≡◌};
 
 use std::marker::Model;
 
-/// A stretch of the source: a name, or what stands between quotes.
+/// A stretch of the source: a name, or what is between quotes.
 #[derive(Drop)]
 pub struct Span<'a> {
     bytes: &'a [u8],

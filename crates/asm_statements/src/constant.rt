@@ -1,3 +1,5 @@
+//! `li`: one `addi` if the number fits into it, else `lui` and `addi`.
+
 ghost use Rattle.std.specs.Prelude.{◌≡◌, IfOk, IfErr};
 ghost use Rattle.asm_lines.specs.Faults.{RefusesLine};
 ghost use Rattle.asm_statements.specs.Instructions.{constant, load_immediate};

@@ -1,3 +1,5 @@
+//! Lists of values: what `.word` puts into the text, and `.word`, `.half` and `.byte` into the data.
+
 ghost use Rattle.std.specs.Prelude.{◌≡◌, IfOk, IfErr};
 ghost use Rattle.std.specs.List.{list_all};
 ghost use Rattle.asm_lines.specs.Faults.{RefusesLine};
@@ -19,7 +21,7 @@ pub enum Size {
     Byte,
 }
 
-/// Whether an operand may stand in a list of values.
+/// Whether an operand may be in a list of values.
 #[tactic(auto, unfolding(crate::specs::Directives::is_value))]
 fn is_value(size: Size, operand: &Operand) -> bool
     ensures { result ≡ form.is_value size operand.now }
@@ -57,7 +59,7 @@ fn data_value<'a>(size: Size, operand: &Operand<'a>) -> Result<Datum<'a>, FaultK
     }
 }
 
-/// Whether each operand may stand in a list of values.
+/// Whether each operand may be in a list of values.
 fn are_values(size: Size, operands: &[Operand]) -> bool
     ensures { result ≡ list_all (form.is_value size) operands.now }
 {

@@ -1,3 +1,5 @@
+//! The names of instructions and pseudo-instructions (all except `li`), and what each name means.
+
 ghost use Rattle.std.specs.Prelude.{◌≡◌, ◌<◌, length, IfSome};
 ghost use Rattle.std.specs.List.{position, before_first, after_first};
 ghost use Rattle.asm_statements.specs.Names.{named};
@@ -191,7 +193,7 @@ fn point(name: &[u8]) -> Option<usize>
     name.iter().position(|byte| *byte == b'.')
 }
 
-/// What stands before the first point of a name, and what stands after it.
+/// What is before the first point of a name, and what is after it.
 #[tactic(auto, using(crate::proofs::PointLemmas::stem_before_point, crate::proofs::PointLemmas::suffix_after_point, crate::proofs::PointLemmas::stem_with_no_point, crate::proofs::PointLemmas::suffix_with_no_point))]
 fn at_point(name: &[u8]) -> (&[u8], &[u8])
     ensures stem { result.0.now ≡ before_first is_point name.now }

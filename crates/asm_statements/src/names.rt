@@ -1,3 +1,5 @@
+//! Looks a name up in a table: the first row with that name gives the value.
+
 ghost use Rattle.std.specs.Prelude.{◌≡◌, map, find};
 ghost use Rattle.std.specs.Option.{option_copied};
 ghost use Rattle.std.specs.Str.{bytes_eq};

@@ -1,3 +1,5 @@
+//! What a statement puts into text or data while labels are still names, and its length in bytes.
+
 ghost use Rattle.std.specs.Prelude.{◌≡◌};
 ghost use Rattle.asm_statements.specs.Parts.{code_length, datum_length};
 

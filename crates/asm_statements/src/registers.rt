@@ -1,3 +1,5 @@
+//! The registers by their names: those of the ABI, and `x0` to `x31`.
+
 ghost use Rattle.std.specs.Prelude.{◌≡◌};
 ghost use Rattle.asm_statements.specs.Registers.{register_of};
 

@@ -1,3 +1,5 @@
+//! What a statement is, by its name: a directive, `li`, or any other instruction.
+
 ghost use Rattle.std.specs.Prelude.{◌≡◌, option_map};
 ghost use Rattle.asm_statements.specs.Mnemonics.{mnemonic_of};
 ghost use Rattle.asm_statements.specs.declared.statement.Statement.TheVariants.{Code};
@@ -52,7 +54,7 @@ fn code(name: &[u8]) -> Option<Statement>
     read_mnemonic(name).map(Statement::Code)
 }
 
-/// What a name stands for.
+/// What a name means.
 #[tactic(auto, unfolding(crate::specs::Statements::statement_of))]
 pub(crate) fn read_name(name: &[u8]) -> Option<Statement>
     ensures { result ≡ statement_of name.now }

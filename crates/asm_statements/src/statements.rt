@@ -1,3 +1,5 @@
+//! What a statement does in the section that it is in, or its first fault.
+
 ghost use Rattle.std.specs.Prelude.{◌≡◌, IfOk, IfErr};
 ghost use Rattle.asm_lines.specs.Faults.{RefusesLine};
 ghost use Rattle.asm_statements.specs.Effects.{effect_value};

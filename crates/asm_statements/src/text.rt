@@ -1,3 +1,5 @@
+//! `.ascii` and `.space`: the bytes of a text after its escapes, and a number of zero bytes.
+
 ghost use Rattle.std.specs.Prelude.{◌≡◌, IfOk, IfErr, map};
 ghost use Rattle.asm_lines.specs.Faults.{RefusesLine};
 ghost use Rattle.asm_statements.specs.Directives as form;
@@ -9,7 +11,7 @@ use crate::shapes::{one_number, one_text};
 use asm_lines::{FaultKind, LineRefusal, Operand};
 use std::alloc::{AllocError, Global};
 
-/// What a character stands for behind a backslash.
+/// What a character means after a backslash.
 #[tactic(auto, unfolding(crate::specs::Directives::escape))]
 fn escape(character: u8) -> u8
     ensures { result ≡ form.escape character }

@@ -1,3 +1,5 @@
+//! Removes the entry of a page from the replacement list.
+
 ghost use Rattle.std.specs.Prelude.{◌≡◌, OnErr};
 ghost use Rattle.clock_policy.specs.ClockPro.{withdrawn};
 

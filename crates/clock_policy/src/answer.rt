@@ -1,3 +1,5 @@
+//! The bit that answers a question, the verdict that follows, and the kind of an admitted page.
+
 use crate::key::Key;
 use std::fmt;
 

@@ -1,3 +1,5 @@
+//! Entries of the replacement list: a page and its kind (hot, test, cold or shadow).
+
 ghost use Rattle.std.specs.Prelude.{◌≡◌};
 ghost use Rattle.clock_policy.specs.ClockPro.{has_key, is_hot, is_cold, is_shadow, is_in_test};
 

@@ -1,3 +1,5 @@
+//! The name of a page on the machine: the numbers of its process and of its virtual page, printed `P/V`.
+
 use std::fmt;
 
 /// A page: a process by its number, and the number of one of its virtual pages.

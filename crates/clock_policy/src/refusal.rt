@@ -1,3 +1,5 @@
+//! Why the replacement list refuses a call, and why no list is made, with the number of each reason.
+
 ghost use Rattle.std.specs.Prelude.{◌≡◌};
 ghost use Rattle.clock_policy.specs.RefusalNumber.{refusal_number, new_refusal_number};
 

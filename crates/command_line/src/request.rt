@@ -1,3 +1,5 @@
+//! What is asked of each command, with the values of its options; and why words make no request.
+
 use std::alloc::AllocError;
 use thiserror::Error;
 
@@ -68,7 +70,7 @@ pub struct RunRequest<'a> {
 pub enum Threading {
     /// On one, one event after another.
     Serial,
-    /// Its harts on so many workers, while another thread makes room for pages. With or without lines that tell how far the
+    /// Its harts on so many workers, while another thread makes room for pages. With or without lines that report how far the
     /// processes are; and that thread writes changed pages ahead, or does not.
     Workers {
         workers: u32,

@@ -1,3 +1,5 @@
+//! The debugger: adds and removes points, runs one step, or runs steps by turns until a reason to stop.
+
 ghost use Rattle.std.specs.Prelude.{◌≡◌, ◌⊎◌, ℕ, ◌<◌, ◌≤◌, length, true, false, Some, None, IfSome, IfOk, IfErr, OnOk, OnErr, slice_set, replicate};
 ghost use Rattle.flat_machine.specs.ByTurns.{first_turn};
 ghost use Rattle.flat_machine.specs.Process.{hart_registers, is_live};
@@ -138,13 +140,13 @@ impl<T: Target> Debugger<T> {
     }
 
     /// Steps the hart whose turn it is, then the next, until there is a reason to stop: the process has ended, a byte that is
-    /// watched was changed, the hart whose turn it is stands at a break, or so many steps were done. Tells the reason, with the
+    /// watched was changed, the hart whose turn it is has come to a break, or so many steps were done. Reports the reason, with the
     /// point's number where there are several the lowest, how many steps were done, and the hart of the last one: of none the
     /// hart whose turn it was.
     ///
     /// # Errors
     ///
-    /// Want of memory for a step; the steps before it stand.
+    /// Want of memory for a step; the steps before it remain.
     #[tactic(auto, using(crate::proofs::Trimmed::points_trimmed))]
     pub fn go(&mut self, limit: u64) -> Result<(Why, u64, u32), AllocError>
         ensures stops { IfOk result (λ stop. Stops T.shown T.limits self.old.target self.old.points

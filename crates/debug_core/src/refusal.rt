@@ -1,3 +1,5 @@
+//! Why the debugger refuses a call, with the number of each reason.
+
 ghost use Rattle.std.specs.Prelude.{◌≡◌};
 ghost use Rattle.debug_core.specs.RefusalNumber.{refusal_number};
 

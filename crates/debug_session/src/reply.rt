@@ -1,3 +1,5 @@
+//! The replies of a debugger, before they become text.
+
 use debug_core::{DebugRefusal, DebugStep, Why};
 use flat_machine::End;
 use rv_exec::Regs;

@@ -1,3 +1,5 @@
+//! Slots in memory whose first calls fail, a given number for each slot, and whose later calls work.
+
 ghost use Rattle.std.specs.Prelude.{◌≡◌, ◌+◌, ◌^◌, ◌<◌, ◌≤◌, ⊤, true, false, min, IfOk, IsErr};
 ghost use Rattle.std.specs.Prelude.{OnOk, OnErr};
 ghost use Rattle.swap_slots.specs.Slot.{Rose};

@@ -1,3 +1,5 @@
+//! Slots in memory that save each page and fail in every load.
+
 ghost use Rattle.std.specs.Prelude.{◌≡◌, ◌-◌, ◌+◌, ◌^◌, ◌<◌, ◌≤◌, ⊤, min, IfOk, IsOk, IsErr, OnOk};
 ghost use Rattle.std.specs.Prelude.{OnErr, false};
 ghost use Rattle.swap_slots.specs.Slot.{Rose};

@@ -1,3 +1,5 @@
+//! Why a file, words or parts make no image, with the number of each fault.
+
 ghost use Rattle.std.specs.Prelude.{◌≡◌};
 ghost use Rattle.elf_image.specs.Faults.{fault_number};
 

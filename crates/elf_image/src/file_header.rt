@@ -1,3 +1,5 @@
+//! The ELF header of a file: its fields, and its first fault.
+
 ghost use Rattle.std.specs.Prelude.{◌≡◌, ◌+◌, ◌≤◌, length, slice_index};
 ghost use Rattle.elf_image.specs.ElfFiles.{half_at, word_at, is_short, begins_as_elf, is_not_elf, is_wrong_class, is_wrong_type, is_wrong_machine, has_flags, has_no_headers, headers_count, headers_offset, header_fault};
 
@@ -38,7 +40,7 @@ pub(crate) fn entry(file: &[u8]) -> u32
     word_at(file, 24)
 }
 
-/// `e_phoff`: where the program headers stand in the file.
+/// `e_phoff`: where the program headers are in the file.
 pub(crate) fn headers_offset(file: &[u8]) -> u32
     requires { 52 ≤ length file.now }
     ensures { result ≡ headers_offset file.now }
@@ -128,7 +130,7 @@ fn has_flags(file: &[u8]) -> bool
     word_at(file, 36) & UNSUPPORTED_FLAGS != 0
 }
 
-/// Whether it has program headers of another size, or behind its end.
+/// Whether it has program headers of another size, or past its end.
 fn has_no_headers(file: &[u8]) -> bool
     requires { 52 ≤ length file.now }
     ensures { result ≡ has_no_headers file.now }

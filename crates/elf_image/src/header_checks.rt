@@ -1,3 +1,5 @@
+//! The first fault of a file's program headers: each test is made on all headers before the next test.
+
 ghost use Rattle.std.specs.Prelude.{◌≡◌, ◌+◌, ◌*◌, ◌<◌, ◌≤◌, length};
 ghost use Rattle.std.specs.List.{list_any};
 ghost use Rattle.elf_image.specs.ElfFiles.{program_headers, program_fault, headers_offset, headers_count};

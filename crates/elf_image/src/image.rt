@@ -1,3 +1,5 @@
+//! A program image: its entry, and its pages by rising number, which several holders can share.
+
 ghost use Rattle.std.specs.Prelude.{◌≡◌, IfOk};
 ghost use Rattle.elf_image.specs.Image.{ArePages, IsLawful};
 
@@ -61,7 +63,7 @@ impl Image {
         })
     }
 
-    /// The address at which the first instruction stands.
+    /// The address of the first instruction.
     pub fn entry(&self) -> u32
         ensures { result ≡ self.now.entry }
     {

@@ -1,3 +1,5 @@
+//! The pages of an ELF file's segments: bytes of the file, zeros elsewhere, and the segments' rights.
+
 ghost use Rattle.std.specs.Prelude.{◌≡◌, ℕ, ◌+◌, ◌*◌, ◌<◌, ◌≤◌, ◌≢◌, cond, length, map, replicate, IfOk};
 ghost use Rattle.std.specs.List.{All, AllPairs, list_any};
 ghost use Rattle.page_memory.specs.MemoryMap.{image_end_page};

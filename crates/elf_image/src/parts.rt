@@ -1,3 +1,5 @@
+//! From an entry and pages to an image, or the first fault of range, order, size, regions and entry.
+
 ghost use Rattle.std.specs.Prelude.{◌≡◌, length, map, IfOk, IsTrue, IsFalse};
 ghost use Rattle.std.specs.Result.{result_err};
 ghost use Rattle.elf_image.specs.Parts.{image_of_parts, parts_fault, too_high, rising, entered, readable_page};

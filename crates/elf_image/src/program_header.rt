@@ -1,3 +1,5 @@
+//! One program header of an ELF file: its fields, the tests of its segment, and the pages that it touches.
+
 ghost use Rattle.std.specs.Prelude.{◌≡◌, ◌+◌, ◌/◌, ◌≤◌, length};
 ghost use Rattle.page_memory.specs.MemoryMap.{image_end};
 ghost use Rattle.elf_image.specs.ElfFiles.{header_at, is_load, is_dynamic, is_out_of_file, is_larger_in_file, is_out_of_range, end_of};
@@ -12,7 +14,7 @@ use page_memory::PAGE_SIZE;
 pub struct ProgramHeader {
     /// `p_type`.
     pub kind: u32,
-    /// `p_offset`: where the segment's bytes stand in the file.
+    /// `p_offset`: where the segment's bytes are in the file.
     pub offset: u32,
     /// `p_vaddr`: its first address.
     pub address: u32,
@@ -57,7 +59,7 @@ impl ProgramHeader {
         self.kind == DYNAMIC || self.kind == INTERPRETER
     }
 
-    /// Whether it takes bytes from behind the end of a file of this size.
+    /// Whether it takes bytes from past the end of a file of this size.
     pub(crate) fn is_out_of_file(&self, size: usize) -> bool
         ensures { result ≡ is_out_of_file size self.now }
     {
@@ -78,7 +80,7 @@ impl ProgramHeader {
         self.memory_size > 0 && self.end() > END_OF_RANGE
     }
 
-    /// The first address behind the segment.
+    /// The first address after the segment.
     pub(crate) fn end(&self) -> u64
         ensures { result ≡ end_of self.now }
     {
@@ -92,7 +94,7 @@ impl ProgramHeader {
         self.address / PAGE_SIZE as u32
     }
 
-    /// The number of the first page behind it.
+    /// The number of the first page after it.
     pub(crate) fn end_page(&self) -> u32
         requires { end_of self.now ≤ image_end }
         ensures { result ≡ (end_of self.now + 4095) / 4096 }

@@ -1,3 +1,5 @@
+//! From an ELF file to its image, or to the file's first fault.
+
 ghost use Rattle.std.specs.Prelude.{◌≡◌, ◌≢◌, None, Some, IfOk, IfErr, OnOk};
 ghost use Rattle.std.specs.List.Sorted.{IsPermutation, IsNonDecreasingBy};
 ghost use Rattle.elf_image.specs.ElfFiles.{file_fault, file_image, early_fault, header_fault, program_fault, loading_fault, segments};

@@ -1,3 +1,5 @@
+//! The longest runs of neighbouring pages with equal rights: each is one segment of a written file.
+
 ghost use Rattle.std.specs.Prelude.{◌≡◌, ℕ, ◌+◌, ◌*◌, ◌<◌, ◌≤◌, ◌^◌, length, slice_index_or, IfOk};
 ghost use Rattle.elf_image.specs.Image.{ArePages};
 ghost use Rattle.elf_image.specs.WrittenFiles.{run_of, goes_on, runs};
@@ -11,7 +13,7 @@ use std::alloc::{AllocError, Global};
 pub struct Run {
     /// The number of the first page.
     pub number: u32,
-    /// How many of the image's pages stand before it.
+    /// How many of the image's pages are before it.
     pub place: u32,
     /// How many pages these are.
     pub count: u32,
@@ -21,7 +23,7 @@ pub struct Run {
 impl Run {
     ghost use Rattle.elf_image.specs.WrittenFiles.{run_of, goes_on};
 
-    /// The run of one page, before which so many pages stand.
+    /// The run of one page, before which there are so many pages.
     pub(crate) fn of(place: u32, listed: &ImagePage) -> Self
         ensures { result ≡ run_of place listed.now }
     {

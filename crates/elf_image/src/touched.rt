@@ -1,3 +1,5 @@
+//! Which pages the segments of a file touch, and which segments touch a page.
+
 ghost use Rattle.std.specs.Prelude.{◌≡◌, ◌+◌, ◌-◌, ◌/◌, ◌*◌, ◌<◌, ◌≤◌, ◌++◌, length, IfOk, IfErr, OnOk};
 ghost use Rattle.std.specs.List.{All, AllPairs, range_with_len, filter};
 ghost use Rattle.std.specs.List.Sorted.{IsNonDecreasingBy, IsPartitionPoint};
@@ -46,7 +48,7 @@ fn push_range(numbers: &mut Vec<u32>, first: u32, end: u32) -> Result<(), AllocE
     Ok(())
 }
 
-/// The segments of a list by address that touch a page: they stand side by side.
+/// The segments of a list by address that touch a page: they are next to each other.
 pub(crate) fn touching(loaded: &[ProgramHeader], page: u32) -> &[ProgramHeader]
     requires low { page < image_end_page }
     requires full { All (λ segment. 0 < segment.memory_size) loaded.now }

@@ -1,3 +1,5 @@
+//! From a list of words to an image: code from 0x00010000 on, with the first word as its entry.
+
 ghost use Rattle.std.specs.Prelude.{◌≡◌, ◌≢◌, ◌≤◌, ◌<◌, ◌*◌, ◌↔◌, [], length, map, IfOk, IfErr};
 ghost use Rattle.std.specs.List.{range_with_len};
 ghost use Rattle.elf_image.specs.Image.{image_of_words, word_page, word_pages, padded, bytes_of, most_words, readable_code};
@@ -20,7 +22,7 @@ const FIRST_PAGE: u32 = 0x10;
 const PAGE_WORDS: usize = 1024;
 
 impl Image {
-    /// The image of a list of words: they stand from 0x00010000 on, in pages that may be read and
+    /// The image of a list of words: they are from 0x00010000 on, in pages that may be read and
     /// executed, and the first is the entry.
     pub fn from_words(alloc: Global, words: &[u32]) -> Result<Image, ElfFault>
         ensures image { IfOk result (λ image. image ≡ image_of_words words.now) }

@@ -1,3 +1,5 @@
+//! From an image to an ELF file: one segment for each run of neighbouring pages with equal rights.
+
 ghost use Rattle.std.specs.Prelude.{◌≡◌, ℕ, ◌+◌, ◌*◌, ◌<◌, ◌≤◌, ◌^◌, ◌++◌, [], cond, length, flat_map, slice_index_or, IfOk, OnOk, List};
 ghost use Rattle.page_memory.specs.MemoryMap.{most_image_pages};
 ghost use Rattle.byteorder.specs.Endian.{little_bytes};
@@ -16,7 +18,7 @@ use page_memory::{Access, PAGE_SIZE, Rights};
 use std::alloc::{AllocError, Global};
 
 /// The image as an ELF file: a segment for each run of neighbouring pages of equal rights, of whole
-/// pages, whose bytes stand in the file from the next multiple of 4096 after the headers on.
+/// pages, whose bytes are in the file from the next multiple of 4096 after the headers on.
 pub fn write_elf(alloc: Global, image: &Image) -> Result<Vec<u8>, AllocError>
     ensures { IfOk result (λ file. file.items ≡ elf_file image.now) }
 {
@@ -73,7 +75,7 @@ fn put_words(file: &mut Vec<u8>, numbers: &[u32]) -> Result<(), AllocError>
     Ok(())
 }
 
-/// Appends the ELF header of a file with so many program headers behind it.
+/// Appends the ELF header of a file with so many program headers after it.
 fn put_header(file: &mut Vec<u8>, entry: u32, count: u16) -> Result<(), AllocError>
     ensures { OnOk result (file.new.items ≡ file.old.items ++ file_header entry count) }
 {
@@ -149,7 +151,7 @@ fn offset_of_pages(count: usize) -> usize
     (HEADER_SIZE + PROGRAM_HEADER_SIZE * count + PAGE_SIZE - 1) / PAGE_SIZE * PAGE_SIZE
 }
 
-/// Writes what stands before the pages' bytes into an empty file.
+/// Writes what is before the pages' bytes into an empty file.
 fn put_front(file: &mut Vec<u8>, entry: u32, segments: &[Run]) -> Result<(), AllocError>
     requires empty { file.old.items ≡ [] }
     requires few { length segments.now ≤ most_image_pages }

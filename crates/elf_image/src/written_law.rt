@@ -1,3 +1,5 @@
+//! The law of written files: reading one gives back the image that it was written from.
+
 ghost use Rattle.std.specs.Prelude.{◌≡◌, None};
 ghost use Rattle.elf_image.specs.Image.{ImageContent};
 ghost use Rattle.elf_image.specs.ElfFiles.{file_fault, file_image};

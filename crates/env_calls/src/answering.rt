@@ -1,3 +1,5 @@
+//! How a call answers: the value goes to a0, and pc to the next instruction; and the error values.
+
 ghost use Rattle.std.specs.Prelude.{◌≡◌};
 ghost use Rattle.rv_exec.specs.Line.{computed};
 ghost use Rattle.env_calls.specs.Calls.{a0};

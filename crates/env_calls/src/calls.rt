@@ -1,3 +1,5 @@
+//! The environment calls that are served, by their numbers.
+
 ghost use Rattle.std.specs.Prelude.{◌≡◌};
 ghost use Rattle.env_calls.specs.Calls.{call_of};
 
@@ -18,7 +20,7 @@ pub enum Call {
     Break,
     /// Starts a hart.
     Spawn,
-    /// Tells the hart its number.
+    /// Answers the hart's number.
     HartNumber,
 }
 

@@ -1,3 +1,5 @@
+//! What the calls of a process share and keep: unread input, output, the break, mapped pages, live harts.
+
 ghost use Rattle.std.specs.Prelude.{◌≡◌, ◌≤◌, ◌<◌, ◌+◌, ◌*◌, ◌^◌, true, false, [], ◌∷◌, ◌++◌, OnOk};
 ghost use Rattle.std.specs.Prelude.{OnErr, length, drop, slice_index_or};
 ghost use Rattle.std.specs.Bool.{OnTrue, OnFalse};
@@ -157,7 +159,7 @@ impl Env {
         pages_up_to(request) - pages_up_to(self.break_at)
     }
 
-    /// Writes bytes behind the others.
+    /// Writes bytes after the others.
     pub(crate) fn write(&mut self, bytes: &[u8]) -> Result<(), AllocError>
         ensures ok { OnOk result (self.new ≡ record self.old {
           output = self.old.output ++

@@ -1,3 +1,5 @@
+//! Which harts of a process are live, and whose turn is next: the least live one above, else the least.
+
 ghost use Rattle.std.specs.Prelude.{◌≡◌, ◌<◌, ◌≤◌, ◌+◌, ◌∷◌, ◌++◌, [], true, false, length};
 ghost use Rattle.std.specs.Prelude.{slice_index_or};
 ghost use Rattle.std.specs.Bool.{OnTrue, OnFalse};
@@ -26,7 +28,7 @@ impl Model for LiveHarts {
 }
 
 impl LiveHarts {
-    /// Hart 0 alone, which is live.
+    /// Only hart 0, which is live.
     pub fn new() -> Self
         ensures { result ≡ true ∷ [] }
     {

@@ -1,3 +1,5 @@
+//! What becomes of a hart by its served call, and why a call can't be served yet.
+
 ghost use Rattle.std.specs.Prelude.{◌≡◌};
 ghost use Rattle.env_calls.specs.declared.served.ServeStop.TheVariants.{NoMemory};
 

@@ -1,3 +1,5 @@
+//! Serves an environment call by its number in a7.
+
 ghost use Rattle.std.specs.Prelude.{◌≡◌, Err, IfOk, OnErr};
 ghost use Rattle.env_calls.specs.Calls.{call, call_pages, call_stores};
 ghost use Rattle.rv_exec.specs.Bounds.{Bounds};

@@ -1,3 +1,5 @@
+//! The rest of a step after its instruction: an ECALL is served, any other outcome is passed on.
+
 ghost use Rattle.std.specs.Prelude.{◌≡◌, Err, IfOk, OnErr};
 ghost use Rattle.rv_exec.specs.Bounds.{Bounds};
 ghost use Rattle.env_calls.specs.Serving.{TakesMemory};

@@ -1,7 +1,9 @@
+//! The reply to an event, as one line of text.
+
 use machine_core::Reply;
 use std::fmt;
 
-/// A reply as it is told, in a line.
+/// A reply as it is printed, in a line.
 #[derive(Clone, Copy)]
 pub struct ReplyLine(pub Reply);
 

@@ -1,3 +1,5 @@
+//! Why slots in files are not made: a file that can't be made, or no memory.
+
 use crate::file_name::FileName;
 use std::alloc::AllocError;
 use thiserror::Error;

@@ -1,3 +1,5 @@
+//! The maker of the files of slots, as a trait; an operating system with files is one.
+
 ghost use Rattle.std.specs.Prelude.{ℕ, ⊤, List, IfNone, IfSome};
 
 use std::fs::OpenOptions;
@@ -21,7 +23,7 @@ pub trait FileMaker {
         ensures refused { IfNone result (refuses name.now) };
 }
 
-/// The system tells neither which file an open one is, nor why one is not made.
+/// The system reports neither which file an open one is, nor why one is not made.
 impl<R: Files> FileMaker for R {
     type File = R::File;
 

@@ -1,3 +1,5 @@
+//! The name of the file of a slot: `PREFIX.K`.
+
 use std::fmt;
 
 /// The name of a slot's file: `PREFIX.K`, a prefix that all slots share, a point and the slot's number in decimal.

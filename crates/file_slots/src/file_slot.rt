@@ -1,3 +1,5 @@
+//! A slot in an open file: the page is the file's first 4096 bytes, and calls that fail are counted.
+
 ghost use Rattle.std.specs.Prelude.{◌≡◌, ◌+◌, ◌-◌, ◌^◌, ◌≤◌, ◌↔◌, [], min, Ok, Err, IfOk, IsErr, OnOk, OnErr, false};
 ghost use Rattle.std.specs.Io.KnownBytes.{Appends, Consumes};
 ghost use Rattle.file_slots.specs.FromStart.{FromStart};
@@ -66,7 +68,7 @@ impl<F> FileSlot<F> {
 }
 
 impl<F: Read + Write + Seek + Drop> SwapSlot for FileSlot<F> {
-    // What a file holds is not known. Nothing follows from what stands here, since the kind is not honest.
+    // What a file holds is not known. Nothing follows from what is claimed here, since the kind is not honest.
     ghost content = { λ _. [] };
 
     ghost failures = { λ slot. slot.failures };
@@ -121,7 +123,7 @@ fn write_page<F: Write + Seek>(file: &mut F, page: &[u8; 4096]) -> io::Result<()
     write_whole(file, page)
 }
 
-/// Writes a page where a file stands: a short write goes on, and one that is interrupted is tried again.
+/// Writes a page at a file's position: a short write goes on, and one that is interrupted is tried again.
 #[tactic(auto, using(crate::proofs::Flushed::still_appended))]
 fn write_whole<F: Write>(file: &mut F, page: &[u8; 4096]) -> io::Result<()>
     ensures { OnOk result (Appends (F.contents file.old) (F.contents file.new) page.now) }

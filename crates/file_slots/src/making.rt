@@ -1,3 +1,5 @@
+//! Makes slots in files `PREFIX.0`, `PREFIX.1` and so on, at most 512 of them.
+
 ghost use Rattle.std.specs.Prelude.{◌≡◌, min, IfOk, IfErr};
 ghost use Rattle.file_slots.specs.FileNames.{file_name};
 ghost use Rattle.file_slots.specs.Making.{AreMade, IsMade, StopsAt, StopsMaking};

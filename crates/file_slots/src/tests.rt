@@ -1,3 +1,5 @@
+//! Tests of slots in files: short, interrupted and failing calls, short files, and files that can't be made.
+
 use crate::{FileName, FileSlot, FilesFault, make_file_slots};
 use std::alloc::Global;
 use std::io::{Cursor, ErrorKind, Read, Seek, SeekFrom, Write};
@@ -6,7 +8,7 @@ use std::test::Fail;
 use std::{env, fs, io, process};
 use swap_slots::{SlotFault, SwapSlot};
 
-/// A file in memory of which a call gives or takes a few bytes alone, and of whose calls one fails.
+/// A file in memory of which a call gives or takes only a few bytes, and of whose calls one fails.
 #[derive(Drop)]
 struct Reluctant {
     bytes: Cursor<Vec<u8>>,

@@ -1,3 +1,5 @@
+//! Runs a process on flat memory by turns of its live harts, up to a number of steps.
+
 ghost use Rattle.std.specs.Prelude.{◌≡◌, ◌<◌, ◌≤◌, ℕ, Some, true, IsSome, IfOk, IfErr};
 ghost use Rattle.env_calls.specs.Environment.{next_live};
 ghost use Rattle.flat_machine.specs.Process.{is_live, may_step};
@@ -8,7 +10,7 @@ use crate::process::FlatProcess;
 use std::alloc::AllocError;
 use thiserror::Error;
 
-/// There is no memory for the next step of a run by turns; the steps before it stand.
+/// There is no memory for the next step of a run by turns; the steps before it remain.
 #[derive(Clone, Copy, PartialEq, Eq, Debug, Error)]
 #[error("there is no memory for the step after {steps}")]
 pub struct OutOfMemory {
@@ -17,8 +19,8 @@ pub struct OutOfMemory {
 }
 
 impl FlatProcess {
-    /// Steps the harts by turns until the process has ended or the limit is reached, and tells how many
-    /// steps that took. Where memory is wanting, the steps before stand.
+    /// Steps the harts by turns until the process has ended or the limit is reached, and reports how many
+    /// steps that took. Where memory is wanting, the steps before remain.
     ///
     /// At first it is the turn of hart 0, or where that is not live of the least live one; after a step of
     /// a hart, of the least live one above it, else of the least live one.

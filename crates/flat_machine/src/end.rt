@@ -1,3 +1,5 @@
+//! How a process ended: by itself with a status, by a trap, or by the machine, with the cause's number.
+
 ghost use Rattle.std.specs.Prelude.{◌≡◌, ◌<◌, ◌⊎◌, None, IfSome};
 ghost use Rattle.flat_machine.specs.Ending.{kill_number};
 

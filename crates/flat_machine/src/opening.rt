@@ -1,3 +1,5 @@
+//! A process on flat memory before its first step: image, stack, break and first registers.
+
 ghost use Rattle.std.specs.Prelude.{◌≡◌, ◌++◌, map, IfOk, OnOk};
 ghost use Rattle.std.specs.List.{range_with_len};
 ghost use Rattle.std.specs.FinMap.{from_entries};
@@ -19,7 +21,7 @@ use rv_isa::Reg;
 use shared_origins::SharedBytes;
 use std::alloc::{AllocError, Global};
 
-/// Where the first hart's stack pointer stands.
+/// Where the first hart's stack pointer begins.
 const STACK_TOP: u32 = 0x7FFF_FFF0;
 
 /// The number of the first page of the stack, which goes from 0x7FFC0000 to 0x7FFFFFFF.
@@ -62,7 +64,7 @@ pub fn first_registers(entry: u32) -> Regs
     regs
 }
 
-/// Where the break of a process stands at first: after the highest page of its image.
+/// Where the break of a process is at first: after the highest page of its image.
 #[tactic(auto, unfolding(crate::specs::Process::first_break))]
 pub fn first_break(pages: &[ImagePage]) -> u32
     requires { ArePages pages.now }

@@ -1,3 +1,5 @@
+//! A process on flat memory: its harts' registers, environment, memory and ending.
+
 ghost use Rattle.std.specs.Prelude.{◌≡◌, option_copied};
 ghost use Rattle.flat_machine.specs.Process.{hart_registers, is_live, IsWhole};
 ghost use Rattle.page_memory.specs.Memory.{byte_at, fetched};

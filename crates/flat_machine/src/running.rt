@@ -1,3 +1,5 @@
+//! Runs a process on flat memory by a schedule, up to the first step that is refused.
+
 ghost use Rattle.std.specs.Prelude.{◌≡◌, ◌<◌, ◌≤◌, Some, IfErr, OnOk, replicate};
 ghost use Rattle.flat_machine.specs.Process.{flat_run};
 ghost use Rattle.flat_machine.specs.Refusals.{RefusesStep, StopsAt};
@@ -8,8 +10,8 @@ use crate::schedule::Schedule;
 use crate::stepping::StepRefusal;
 
 impl FlatProcess {
-    /// Runs a schedule. It stops at the first step that is refused, and tells how many were done: those
-    /// stand.
+    /// Runs a schedule. It stops at the first step that is refused, and reports how many were done: those
+    /// remain.
     pub fn run(&mut self, schedule: &Schedule) -> Result<(), (StepRefusal, u64)>
         ensures ok { OnOk result (flat_run (written_out schedule.now) self.old ≡ Some self.new) }
         ensures refused { IfErr result (λ stop.

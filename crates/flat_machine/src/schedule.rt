@@ -1,3 +1,5 @@
+//! Which hart ran each instruction, in order, as at most a million turns with counts.
+
 ghost use Rattle.std.specs.Prelude.{◌≡◌, ◌<◌, ◌≤◌, ◌+◌, ◌*◌, ◌^◌, ◌-◌, [], ◌++◌, ◌∷◌, length};
 ghost use Rattle.std.specs.Prelude.{replicate, is_ok, IfOk, OnOk, OnErr};
 ghost use Rattle.flat_machine.specs.Schedule.{written_out, rest_in_last, room, fits, most_turns};
@@ -80,7 +82,7 @@ impl Schedule {
         ensures recorded { written_out self.new ≡ written_out self.old ++ replicate count hart }
         ensures left { room self.new hart + count ≡ room self.old hart }
     {
-        // For the proof alone: a read tells its invariant.
+        // For the proof only: a read shows its invariant.
         let _ = &self.turns;
         let rest = rest_in_last(self.turns(), hart);
         let more = count.min(rest);
@@ -101,7 +103,7 @@ impl Schedule {
             (rest_in_last self.old hart ≡ 0)) }
         ensures err { OnErr result (self.new ≡ self.old) }
     {
-        // For the proof alone: a read tells its invariant.
+        // For the proof only: a read shows its invariant.
         let _ = &self.turns;
         if self.fits(hart) {
             self.record(hart, 1);
@@ -131,7 +133,7 @@ impl Schedule {
         self.turns[last].count += count;
     }
 
-    /// Begins a turn behind the last one, which takes no more of the hart.
+    /// Begins a turn after the last one, which takes no more of the hart.
     fn begin(&mut self, hart: u32, count: u32)
         requires some { 0 < count }
         requires none { rest_in_last self.old hart ≡ 0 }

@@ -1,3 +1,5 @@
+//! The harts and the ending of a process after a step: a new hart if it started one, and how it ended.
+
 ghost use Rattle.std.specs.Prelude.{◌≡◌, ◌<◌, length, vec_capacity};
 ghost use Rattle.flat_machine.specs.Settling.{harts_after, ending_after, goes_alike, IfSpawns};
 

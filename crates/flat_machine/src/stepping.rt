@@ -1,3 +1,5 @@
+//! One step of a hart on flat memory, and its refusals; also many plain instructions in a row.
+
 ghost use Rattle.std.specs.Prelude.{◌≡◌, ◌<◌, ◌≤◌, Err, Some, None, true, OnOk, OnErr, IfOk, IfErr};
 ghost use Rattle.rv_exec.specs.Line.{line};
 ghost use Rattle.env_calls.specs.Serving.{TakesMemory};
@@ -33,7 +35,7 @@ pub enum StepRefusal {
 pub(crate) struct Course {
     /// How many were done.
     pub done: u64,
-    /// What the one behind them came to, where there were fewer than were allowed: that one is still to be ended.
+    /// What the one after them came to, where there were fewer than were allowed: that one is still to be ended.
     pub last: Outcome,
 }
 
@@ -74,7 +76,7 @@ impl FlatProcess {
         self.end_step(hart, course.last)
     }
 
-    /// Steps a hart that may step, up to so many times, until its next instruction calls or traps, and tells how far that
+    /// Steps a hart that may step, up to so many times, until its next instruction calls or traps, and reports how far that
     /// was. Nothing but its registers and the memory has changed.
     #[inline]
     pub(crate) fn step_plainly(&mut self, hart: u32, most: u64) -> Course

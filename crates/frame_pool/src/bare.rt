@@ -1,3 +1,5 @@
+//! A data frame without its room for a copy: bytes, number, and its share of the pool's ledger.
+
 ghost use Rattle.std.specs.Prelude.{◌≡◌, ◌+◌, ◌<◌, ◌≤◌, length};
 ghost use Rattle.std.specs.Borrow.{sem};
 
@@ -85,7 +87,7 @@ impl<L: Ledger> BareFrame<L> {
     }
 }
 
-/// The same bytes, with their number in the contract: what holds an array does not tell it.
+/// The same bytes, with their number in the contract: what holds an array does not show it.
 #[inline]
 fn as_page(bytes: &[u8; 4096]) -> &[u8; 4096]
     ensures same { result.now ≡ bytes.now }

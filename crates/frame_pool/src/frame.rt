@@ -1,3 +1,5 @@
+//! A data frame: the bytes of one page, its number, and room for one copy of the bytes.
+
 ghost use Rattle.std.specs.Prelude.{◌≡◌, ◌+◌, ◌<◌, ◌≤◌, length, vec_len};
 ghost use Rattle.std.specs.Borrow.{sem};
 
@@ -126,7 +128,7 @@ pub fn gather<L: Ledger>(frames: Vec<Frame<L>>, all: &mut Share<L>)
     ensures parts { all.new.parts ≡ all.old.parts + vec_len frames }
     ensures within { all.new.parts ≤ L.parts }
 {
-    // Merging a share of no part changes nothing, and tells that all parts are within the ledger's.
+    // Merging a share of no part changes nothing, and shows that all parts are within the ledger's.
     let none = all.empty();
     all.merge(none);
     for frame in frames {

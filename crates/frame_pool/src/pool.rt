@@ -1,3 +1,5 @@
+//! The pool of free frames, of 4 to 4096 in all, each with a share of the ledger that counts them.
+
 ghost use Rattle.std.specs.Prelude.{◌≡◌, ◌<◌, ◌≤◌, ◌+◌, ◌↔◌, ◌⊎◌, [], ◌∷◌, ◌++◌, length, IfOk, OnOk, OnErr, IfErr, IsErr, IsErrOf, IsTrue, IsNone, IfNone, IfSome};
 
 use crate::frame::Frame;
@@ -99,7 +101,7 @@ impl<L: Ledger> FramePool<L> {
         ensures size { self.new.size ≡ self.old.size }
     {
         let frame = self.free.pop()?;
-        // For the proof alone: a read tells that what is read is lawful.
+        // For the proof only: a read shows that what is read is lawful.
         let _bytes = frame.bytes();
         Some(frame)
     }

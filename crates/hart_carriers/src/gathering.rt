@@ -1,3 +1,5 @@
+//! Gives up a pager at the end of a run, and reports whether each of its frames is there.
+
 ghost use Rattle.std.specs.Prelude.{◌≡◌, ◌+◌, ◌≤◌, true};
 
 use clock_policy::Clock;

@@ -1,3 +1,5 @@
+//! The report of one process that has run, with what was published last of it.
+
 ghost use Rattle.std.specs.Prelude.{◌≡◌, true};
 ghost use Rattle.elf_image.specs.Start.{start_of};
 ghost use Rattle.hart_carriers.specs.Counts.{status_of};

@@ -1,3 +1,5 @@
+//! The reports of all processes of a machine, by their numbers, with what was published last of each.
+
 ghost use Rattle.std.specs.Prelude.{◌≡◌, ◌≤◌, ◌<◌, ◌&&◌, length, map, vec_len, vec_capacity, []};
 ghost use Rattle.std.specs.Prelude.{true};
 ghost use Rattle.hart_carriers.specs.FlatLines.{counts_of, StandsForRuns};
@@ -21,8 +23,8 @@ pub struct Told {
     pub started: bool,
 }
 
-/// Tells what processes have come to that were to run these images on these inputs, in lists whose room is there. A process for
-/// which none is there is not told.
+/// Reports what processes have come to that were to run these images on these inputs, in lists whose room is there. A process for
+/// which none is there is not reported.
 pub fn tell<L: Ledger, S: SwapSlot>(
     processes: Vec<Ran<L, S>>,
     handed: &[(Image, Vec<u8>)],
@@ -53,7 +55,7 @@ pub fn tell<L: Ledger, S: SwapSlot>(
     close(told, handed.len())
 }
 
-/// What is told, where so many are to be.
+/// What is reported, where so many are to be.
 fn close(told: Told, wanted: usize) -> Told
     ensures processes { result.processes ≡ told.processes }
     ensures published { result.published ≡ told.published }

@@ -1,10 +1,12 @@
+//! Why a command stops, as the message on standard error.
+
 use command_line::UsageError;
 use file_slots::{FileName, FilesFault};
 use std::alloc::AllocError;
 use std::io;
 use thiserror::Error;
 
-/// Why a command stops. Each is printed on standard error behind `paged: `.
+/// Why a command stops. Each is printed on standard error after `paged: `.
 #[derive(Clone, Copy, Debug, PartialEq, Eq, Error)]
 pub enum Fault<'a> {
     #[error("bad usage")]

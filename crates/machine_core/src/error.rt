@@ -1,3 +1,5 @@
+//! Why an event is refused, with the number of each reason, and why no machine is made.
+
 ghost use Rattle.std.specs.Prelude.{◌≡◌};
 ghost use Rattle.machine_core.specs.RefusalNumber.{refusal_number};
 

@@ -1,3 +1,5 @@
+//! The events of a machine, and the replies to them.
+
 use crate::error::EventRefusal;
 use clock_policy::Key;
 use flat_machine::KillCause;
@@ -69,7 +71,7 @@ pub enum Reply {
     Killed,
     /// The process has given everything back.
     Purged,
-    /// The page's dirty bit is clear, so that it tells of the next store.
+    /// The page's dirty bit is clear, so that it shows the next store.
     Cleaning,
     /// A store was made since the cleaning began, which has ended: the page is changed.
     Stored,

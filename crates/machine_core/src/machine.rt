@@ -1,3 +1,5 @@
+//! The machine: pager, slots, processes, and jobs that are out; its events step, notice, kill and sweep.
+
 ghost use Rattle.std.specs.Prelude.{◌≡◌, ◌⊎◌};
 ghost use Rattle.clock_policy.specs.ClockPro.{question_of};
 ghost use Rattle.machine_core.specs.MachineRun.{hart_refusal, kill_refusal, sweep_refusal};

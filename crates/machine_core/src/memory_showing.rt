@@ -1,3 +1,5 @@
+//! Read-only access to the memory of one process of the machine.
+
 ghost use Rattle.std.specs.Prelude.{◌≡◌, option_copied, option_map, slice_get};
 
 use crate::machine::Core;

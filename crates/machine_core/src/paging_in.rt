@@ -1,3 +1,5 @@
+//! The event of a page-in: the page is admitted and loaded, or its admission is undone.
+
 ghost use Rattle.std.specs.Prelude.{◌≡◌, ◌≤◌, length};
 ghost use Rattle.machine_core.specs.PagingIn.{admit_reason, fault_reply, PagesIn};
 

@@ -1,3 +1,5 @@
+//! Admits an absent page: the list takes it and a frame is taken for it. Undone if it is not loaded.
+
 ghost use Rattle.std.specs.Prelude.{◌≡◌, ◌↔◌, ◌++◌, [], ◌∷◌, Some, None, false, length, IfOk};
 ghost use Rattle.std.specs.Prelude.{IfErr, IsErr, OnOk, OnErr};
 ghost use Rattle.clock_policy.specs.Lawful.{Lawful};
@@ -93,7 +95,7 @@ fn list_and_take<L: Ledger, S: SwapSlot, C: Clock>(
     Ok(Admission { key, frame })
 }
 
-/// Why a page of a process is not admitted, as the process tells.
+/// Why a page of a process is not admitted, as the process shows.
 #[tactic(auto, unfolding(crate::specs::Admitting::page_bars))]
 fn page_bars<L: Ledger, S: SwapSlot>(process: &Space<L, S>, vpn: u32) -> Option<NotAdmitted>
     ensures { result ≡ page_bars process.now vpn }
@@ -167,7 +169,7 @@ fn withdraw_and_free<L: Ledger, S: SwapSlot, C: Clock>(
     }) }
     ensures lawful { Lawful pager.old.pager.list }
 {
-    // A question tells that the list is lawful, so that its entry of the page is the only one.
+    // A question shows that the list is lawful, so that its entry of the page is the only one.
     let _ = pager.question();
     let Admission { key, frame } = admission;
     if !is_resident(process, key.vpn) {

@@ -1,3 +1,5 @@
+//! Cleans a changed page while it stays in use: the beginning, the copy, and the end when the copy is back.
+
 ghost use Rattle.std.specs.Prelude.{◌≡◌, ◌<◌, ◌^◌, None, OnOk, OnErr, IfOk};
 ghost use Rattle.paged_memory.specs.Cleaning.{refused_of};
 ghost use Rattle.paged_memory.specs.Paged.{memory_of};
@@ -38,7 +40,7 @@ pub enum CopyBar {
 pub enum Copying<S: SwapSlot> {
     /// A store was made since the cleaning began, which has ended.
     Stored,
-    /// A cache lets a store be made that no dirty bit would tell of.
+    /// A cache lets a store be made that no dirty bit would show.
     NotYet,
     /// No slot is there for the page. Its cleaning has ended.
     NoSlot,
@@ -112,7 +114,7 @@ fn copy_page<L: Ledger, S: SwapSlot>(
     ensures memory { memory_of S.content space.new.memory ≡
         memory_of S.content space.old.memory }
 {
-    // For the proof alone: a pool holds no more than it was made of.
+    // For the proof only: a pool holds no more than it was made of.
     let _ = slots.len();
     let mut spare = slots.take();
     let copied = space.copy_clean(vpn, &mut spare);

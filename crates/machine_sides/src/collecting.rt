@@ -1,3 +1,5 @@
+//! Looks at a page that is leaving: its frame is freed, its bytes go to be saved, or it waits or returns.
+
 ghost use Rattle.std.specs.Prelude.{◌≡◌, None, ◌↔◌, ◌++◌, [], ◌∷◌, length, IsErr, IfErr, OnOk};
 ghost use Rattle.std.specs.Prelude.{OnErr};
 ghost use Rattle.pager_core.specs.Pager.{tallied};

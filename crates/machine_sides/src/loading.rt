@@ -1,3 +1,5 @@
+//! Loads an admitted page into its frame and maps it; a refusal hands the admission back.
+
 ghost use Rattle.std.specs.Prelude.{◌≡◌, Some, None, IfErr, OnOk, OnErr};
 ghost use Rattle.machine_sides.specs.Agreeing.{AgreeStill, AgreesWhereListed};
 ghost use Rattle.machine_sides.specs.Loading.{Loads, DoesNotLoad};

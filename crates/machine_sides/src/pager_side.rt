@@ -1,3 +1,5 @@
+//! The pager with its counts of saves and drops, and the room in which pages are copied.
+
 ghost use Rattle.std.specs.Prelude.{◌≡◌, ◌⊎◌, ◌+◌, ◌↔◌, ◌*◌, ◌≤◌, ◌<◌, IsNone, IfOk, IsErrOf};
 ghost use Rattle.std.specs.Prelude.{option_map, slice_get, length};
 ghost use Rattle.clock_policy.specs.ClockPro.{question_of};

@@ -1,3 +1,5 @@
+//! An ended process gives its frames and slots back, and the replacement list forgets its pages.
+
 ghost use Rattle.std.specs.Prelude.{◌≡◌, IsSome};
 ghost use Rattle.machine_sides.specs.Agreeing.{AgreesPurged};
 ghost use Rattle.machine_sides.specs.Purging.{Purges, GivesAllBack, FreesAnyFrame, Pools};

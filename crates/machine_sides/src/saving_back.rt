@@ -1,3 +1,5 @@
+//! The end of a save: the page's frame is freed, or the page is resident and listed again.
+
 ghost use Rattle.std.specs.Prelude.{◌≡◌, None, ◌↔◌, length, IsErr, IfErr, OnOk, OnErr};
 ghost use Rattle.paged_memory.specs.Paged.{memory_of};
 ghost use Rattle.machine_sides.specs.Agreeing.{AgreeStill};

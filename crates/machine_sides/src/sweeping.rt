@@ -1,3 +1,5 @@
+//! One question of the replacement list, answered by the page's accessed bit; a victim is unmapped.
+
 ghost use Rattle.std.specs.Prelude.{◌≡◌, ◌<◌, ◌^◌, true, Some, None};
 ghost use Rattle.clock_policy.specs.ClockPro.{question_of};
 ghost use Rattle.clock_policy.specs.Lawful.{Lawful};

@@ -1,3 +1,5 @@
+//! The place of a page, if its rights allow an access; else a page fault.
+
 ghost use Rattle.std.specs.Prelude.{◌≡◌, ◌<◌, ◌^◌, Err, IfOk, IfErr, IsTrue, Some, length};
 ghost use Rattle.std.specs.FinMap as map;
 ghost use Rattle.std.specs.Ordering.{nat_cmp};

@@ -1,3 +1,5 @@
+//! Flat memory, the reference for paged memory: all pages are there; with the words that harts reserved.
+
 ghost use Rattle.std.specs.Prelude.{◌≡◌, ◌+◌, ◌≤◌, ◌^◌, ◌<◌, Ok, Err, IfOk, IfErr, OnOk, OnErr, length, IsErr, None};
 ghost use Rattle.std.specs.FinMap as map;
 ghost use Rattle.page_memory.specs.declared.words.Access.{Access};
@@ -132,7 +134,7 @@ impl FlatMemory {
         }
     }
 
-    /// Stores a word at an address where a hart has reserved it, and tells whether it has. The hart's reservation goes in both cases.
+    /// Stores a word at an address where a hart has reserved it, and answers whether it has. The hart's reservation goes in both cases.
     pub fn store_conditional(
         &mut self,
         hart: u32,

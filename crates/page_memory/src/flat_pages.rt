@@ -1,3 +1,5 @@
+//! Accesses to pages that are all there, with tests of alignment and rights; pages used last are remembered.
+
 ghost use Rattle.std.specs.Prelude.{◌≡◌, ◌+◌, ◌≤◌, ◌^◌, ◌<◌, ◌%◌, Ok, Err, MatchResult, IfOk, IfErr, OnOk, OnErr, length, IsErr, None};
 ghost use Rattle.std.specs.FinMap as map;
 ghost use Rattle.page_memory.specs.Pages.{usable, aligned_page, fetched, loaded, stored, answer_by, number_at, copied_out, copied_in, byte_at, with_zeroed, HasGap};

@@ -1,3 +1,5 @@
+//! A page: its rights and its 4096 bytes.
+
 ghost use Rattle.std.specs.Prelude.{◌≡◌, ◌+◌, ◌%◌, ◌≤◌, IfOk, length, replicate};
 ghost use Rattle.page_memory.specs.Pages.{overwritten};
 ghost use Rattle.page_memory.specs.Words.{bytes_in, page_offset};
@@ -46,7 +48,7 @@ impl Page {
         self.rights
     }
 
-    /// The bytes alone.
+    /// Only the bytes.
     pub fn into_bytes(self) -> Box<[u8; PAGE_SIZE]>
         ensures bytes { result.value ≡ self.bytes }
         ensures whole { length result.value ≡ 4096 }

@@ -1,3 +1,5 @@
+//! Little-endian numbers of 1, 2 or 4 bytes in a page, at aligned offsets, and plain bytes at any.
+
 ghost use Rattle.std.specs.Prelude.{◌≡◌, ◌+◌, ◌%◌, ◌<◌, ◌≤◌, length, drop};
 ghost use Rattle.byteorder.specs.Endian.{little_bytes, little_number};
 ghost use Rattle.page_memory.specs.Pages.{overwritten};

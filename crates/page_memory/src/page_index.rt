@@ -1,3 +1,5 @@
+//! A list of page numbers, with a two-level directory that finds the place of each in constant time.
+
 ghost use Rattle.std.specs.Prelude.{◌≡◌, ℕ, true, slice_index, ◌==◌, ◌+◌, ◌-◌, ◌<◌, ◌≤◌, ◌^◌, [], ◌∷◌, ◌++◌, None, is_some, IfOk, OnOk, OnErr, IfSome, IfNone, length, take, position, ◌/◌};
 ghost use Rattle.page_memory.specs.PageIndex.{kept_number, Keeps, KeepsNone};
 
@@ -8,7 +10,7 @@ use std::marker::Model;
 /// How many page numbers a leaf of the directory serves.
 const LEAF_PAGES: u32 = 1024;
 
-/// A list of different page numbers that answers in constant time at which place one stands.
+/// A list of different page numbers that answers in constant time at which place one is.
 ///
 /// It is laid out as a two-level page table: a directory of 1024 leaves, of which only those that are
 /// needed are there, and each leaf has a number for each of its 1024 pages.
@@ -59,7 +61,7 @@ impl PageIndex {
         ensures page { result ≡ slice_index self.now place }
         ensures small { result < 2 ^ 20 }
     {
-        // For the proof alone: a read tells its invariant.
+        // For the proof only: a read shows its invariant.
         let _ = &self.directory;
         self.pages[place]
     }
@@ -89,12 +91,12 @@ impl PageIndex {
         ensures none { IfNone result ((q : ℕ) → from ≤ q → q < 2 ^ 20 →
             position (λ listed. listed == q) self.now ≡ None) }
     {
-        // For the proof alone: a read tells its invariant.
+        // For the proof only: a read shows its invariant.
         let _ = &self.pages;
         first_kept(&self.directory, from)
     }
 
-    /// Lists a page number that is not listed yet, behind the others.
+    /// Lists a page number that is not listed yet, after the others.
     #[tactic(auto, using(crate::proofs::Indexing::few))]
     pub fn push(&mut self, alloc: Global, page: u32) -> Result<(), AllocError>
         requires small { page < 2 ^ 20 }
@@ -160,7 +162,7 @@ fn first_kept(directory: &[Option<Box<[u32; 1024]>>], from: u32) -> Option<u32>
     None
 }
 
-/// A page behind this one, for which the directory keeps 0, and before any other for which it does not.
+/// A page after this one, for which the directory keeps 0, and before any other for which it does not.
 #[tactic(auto, using(crate::proofs::Indexing::keeps_one, crate::proofs::Indexing::keeps_leaf))]
 fn next_page(directory: &[Option<Box<[u32; 1024]>>], page: u32) -> u32
     requires small { page < 2 ^ 20 }

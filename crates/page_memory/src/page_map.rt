@@ -1,3 +1,5 @@
+//! Values by page number. Each has a place, which stays the same as long as the page has a value.
+
 ghost use Rattle.std.specs.Prelude.{◌≡◌, ℕ, true, slice_index, ◌<◌, ◌≤◌, ◌^◌, [], ◌∷◌, ◌++◌, None, Some, is_some, IfOk, IfSome, IfNone, OnErr, length, take};
 ghost use Rattle.std.specs.Borrow.{sem};
 ghost use Rattle.page_memory.specs.Entries.{place_of, pages_of, value_at};
@@ -48,7 +50,7 @@ impl<T> PageMap<T> {
     pub fn len(&self) -> usize
         ensures { result ≡ length self.now }
     {
-        // For the proof alone: a read tells its invariant.
+        // For the proof only: a read shows its invariant.
         let _ = &self.index;
         self.values.len()
     }
@@ -61,7 +63,7 @@ impl<T> PageMap<T> {
         ensures page { result ≡ slice_index (pages_of self.now) place }
         ensures small { result < 2 ^ 20 }
     {
-        // For the proof alone: a read tells its invariant.
+        // For the proof only: a read shows its invariant.
         let _ = &self.values;
         self.index.page(place)
     }
@@ -74,7 +76,7 @@ impl<T> PageMap<T> {
         ensures place { result ≡ place_of page self.now }
         ensures within { IfSome result (λ place. place < length self.now) }
     {
-        // For the proof alone: a read tells its invariant.
+        // For the proof only: a read shows its invariant.
         let _ = &self.values;
         self.index.find(page)
     }
@@ -89,7 +91,7 @@ impl<T> PageMap<T> {
         ensures none { IfNone result ((q : ℕ) → from ≤ q → q < 2 ^ 20 →
             place_of q self.now ≡ None) }
     {
-        // For the proof alone: a read tells its invariant.
+        // For the proof only: a read shows its invariant.
         let _ = &self.values;
         self.index.first_from(from)
     }
@@ -100,7 +102,7 @@ impl<T> PageMap<T> {
         requires { place < length self.now }
         ensures { value_at place self.now ≡ Some result.now }
     {
-        // For the proof alone: a read tells its invariant.
+        // For the proof only: a read shows its invariant.
         let _ = &self.index;
         &self.values[place]
     }
@@ -112,12 +114,12 @@ impl<T> PageMap<T> {
         ensures* writes_back { sem 𝓛 (LendsValue T.row self.entry place result) }
         ensures value { value_at place self.old ≡ Some result.now }
     {
-        // For the proof alone: a read tells its invariant.
+        // For the proof only: a read shows its invariant.
         let _ = &self.index;
         &mut self.values[place]
     }
 
-    /// Gives a value to a page that has none, at the place behind the others.
+    /// Gives a value to a page that has none, at the place after the others.
     pub fn insert(&mut self, alloc: Global, page: u32, value: T) -> Result<usize, AllocError>
     where
         T: Drop,

@@ -1,3 +1,5 @@
+//! Pages by number with the bytes of all in one vector, so that no page needs a pointer.
+
 ghost use Rattle.std.specs.Prelude.{◌≡◌, ◌+◌, ◌*◌, ◌/◌, ◌≤◌, ◌^◌, ◌<◌, ◌%◌, [], ◌∷◌, ◌++◌, None, IfOk, IfSome, OnOk, OnErr, IsErr, length};
 ghost use Rattle.std.specs.Option.{IsSomeAnd};
 ghost use Rattle.byteorder.specs.Endian.{little_bytes};
@@ -14,11 +16,11 @@ use crate::words::{PAGE_SIZE, Width};
 use std::alloc::{AllocError, Global};
 use std::marker::Model;
 
-/// Pages by number, whose bytes stand in one row: a page's place tells where, so that no pointer is kept for a page.
+/// Pages by number, whose bytes are in one row: a page's place shows where, so that no pointer is kept for a page.
 #[derive(Drop)]
 pub(crate) struct PageRow {
     rights: PageMap<Rights>,
-    /// The bytes of all pages, one page behind the other.
+    /// The bytes of all pages, one page after the other.
     bytes: Vec<u8>,
 }
 
@@ -58,7 +60,7 @@ impl PageRow {
         ensures place { result ≡ place_of page self.now }
         ensures within { IfSome result (λ place. place < length self.now) }
     {
-        // For the proof alone: a read tells its invariant.
+        // For the proof only: a read shows its invariant.
         let _ = &self.bytes;
         self.rights.place(page)
     }
@@ -69,7 +71,7 @@ impl PageRow {
         requires { place < length self.now }
         ensures { IsSomeAnd (value_at place self.now) (λ page. page.rights ≡ result) }
     {
-        // For the proof alone: a read tells its invariant.
+        // For the proof only: a read shows its invariant.
         let _ = &self.bytes;
         *self.rights.at(place)
     }
@@ -80,7 +82,7 @@ impl PageRow {
         requires { place < length self.now }
         ensures { result ≡ place * 4096 }
     {
-        // For the proof alone: a read tells its invariant.
+        // For the proof only: a read shows its invariant.
         let _ = &self.rights;
         let _ = &self.bytes;
         place * PAGE_SIZE
@@ -95,7 +97,7 @@ impl PageRow {
             page.bytes ≡ result.now) }
         ensures whole { length result.now ≡ 4096 }
     {
-        // For the proof alone: a read tells its invariant.
+        // For the proof only: a read shows its invariant.
         let _ = &self.rights;
         page_in(self.bytes.as_slice(), first)
     }
@@ -110,7 +112,7 @@ impl PageRow {
         ensures { Rewritten (first / 4096) offset (little_bytes (bytes_in width) word) self.old
             self.new }
     {
-        // For the proof alone: a read tells its invariant.
+        // For the proof only: a read shows its invariant.
         let _ = &self.rights;
         put_number_in(self.bytes.as_mut_slice(), first, width, offset, word);
     }
@@ -121,12 +123,12 @@ impl PageRow {
         requires fits { offset + length bytes.now ≤ 4096 }
         ensures { Rewritten place offset bytes.now self.old self.new }
     {
-        // For the proof alone: a read tells its invariant.
+        // For the proof only: a read shows its invariant.
         let _ = &self.rights;
         put_bytes_in(self.bytes.as_mut_slice(), place, offset, bytes);
     }
 
-    /// Puts a page that is not there behind the others.
+    /// Puts a page that is not there after the others.
     pub fn insert(&mut self, alloc: Global, number: u32, page: Page) -> Result<(), AllocError>
         requires small { number < 2 ^ 20 }
         requires absent { place_of number self.old ≡ None }

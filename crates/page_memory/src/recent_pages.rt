@@ -1,3 +1,5 @@
+//! The pages used last, found without a look-up: one for fetches, 64 each for loads and stores.
+
 ghost use Rattle.std.specs.Prelude.{◌≡◌, ◌%◌, slice_index_or, slice_set, replicate};
 ghost use Rattle.page_memory.specs.Words.{page_number};
 ghost use Rattle.page_memory.specs.RecentPages.{nowhere, no_recent, recent_of, learned, forgotten};

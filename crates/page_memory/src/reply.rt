@@ -1,3 +1,5 @@
+//! The answer of a fetch or load that needs a look-up, in a form that is returned in registers.
+
 ghost use Rattle.std.specs.Prelude.{◌≡◌};
 ghost use Rattle.page_memory.specs.Reply.{answered};
 

@@ -1,3 +1,5 @@
+//! The rights of a page (read, write, execute) as a set of bits.
+
 ghost use Rattle.std.specs.Prelude.{⊤, ◌≡◌, [], ◌∷◌, codes, ℕ, Bool};
 ghost use Rattle.page_memory.specs.Rights.{may, readable};
 

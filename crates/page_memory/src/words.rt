@@ -1,3 +1,5 @@
+//! Addresses, page numbers and offsets; the kinds of accesses, and their widths in bytes.
+
 ghost use Rattle.std.specs.Prelude.{◌≡◌, ◌≢◌, ◌<◌, ◌≤◌, ◌+◌, ◌*◌, ◌/◌, ◌%◌, ◌^◌, None, IfSome};
 ghost use Rattle.page_memory.specs.Words.{page_number, page_offset, bytes_in};
 

@@ -1,3 +1,5 @@
+//! Adds pages of zeros to a map of pages, wherever none is: all of them, or none if memory runs out.
+
 ghost use Rattle.std.specs.Prelude.{◌≡◌, ◌+◌, ◌≤◌, ◌^◌, ◌<◌, None, OnOk, OnErr, IsErr};
 ghost use Rattle.page_memory.specs.Entries.{place_of, added, with_added, LacksOne};
 ghost use Rattle.page_memory.specs.Rights.{read_write};

@@ -1,3 +1,5 @@
+//! What a page answers when it is to be collected, saved, copied or cleaned.
+
 use crate::job::{CleanJob, CleanedJob, SaveJob, SavedJob};
 use frame_pool::Frame;
 use std::sync::ledger::Ledger;
@@ -47,7 +49,7 @@ pub enum CleanCopy<S: SwapSlot> {
 /// What comes of a copy that comes back, in the order in which it is tested.
 #[derive(Drop)]
 pub enum Cleaned<S: SwapSlot> {
-    /// No copy of this page is out, or no store tells why it differs from the page. The job comes back.
+    /// No copy of this page is out, or no store explains why it differs from the page. The job comes back.
     WrongPage(CleanedJob<S>),
     /// A store followed the copy.
     Stored,

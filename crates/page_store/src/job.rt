@@ -1,3 +1,5 @@
+//! Jobs that write a copy of a page to its slot: the page leaves its frame afterwards, or stays in use.
+
 ghost use Rattle.std.specs.Prelude.{◌≡◌, ◌≤◌, ◌↔◌, IsTrue, IsFalse, IfOk, IfErr, OnOk};
 ghost use Rattle.swap_slots.specs.Slot.{Rose};
 ghost use Rattle.page_store.specs.Moves.{copy_of};
@@ -26,7 +28,7 @@ pub type CleanJob<S> = WriteJob<S, Stays>;
 /// The same once it was written, or once its device failed to.
 pub type CleanedJob<S> = WrittenJob<S, Stays>;
 
-/// A page to be written: a copy of its bytes, and the slot that they are for. What becomes of the page meanwhile is told by the type.
+/// A page to be written: a copy of its bytes, and the slot that they are for. The type says what becomes of the page meanwhile.
 #[derive(Drop)]
 pub struct WriteJob<S: SwapSlot, P> {
     process: u32,

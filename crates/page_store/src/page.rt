@@ -1,3 +1,5 @@
+//! One page of a process: it comes into a frame, leaves for its slot, and shows its bytes wherever they are.
+
 ghost use Rattle.std.specs.Prelude.{◌≡◌, ◌≢◌, ◌+◌, ◌≤◌, ◌↔◌, length, ℕ, List, Ok, Err, Some, None};
 ghost use Rattle.std.specs.Prelude.{OnOk, OnErr, IfOk, IfErr, IsErr, IsTrue, false, OnSome, IfNone};
 ghost use Rattle.std.specs.Prelude.{option_copied, option_map, is_some};

@@ -1,3 +1,5 @@
+//! A page in its slot, with the digest of what was saved unless this kind of slot is known to be honest.
+
 ghost use Rattle.std.specs.Prelude.{◌≡◌, IfErr, OnOk, OnErr};
 ghost use Rattle.sha2.specs.Sha256.{sha256};
 ghost use Rattle.swap_slots.specs.Slot.{Rose};

@@ -1,3 +1,5 @@
+//! Why a page is not filled, does not leave or come back, is not cleaned, or can't be read.
+
 use thiserror::Error;
 
 /// Why a page was not brought in, in the order in which the reasons are tested.

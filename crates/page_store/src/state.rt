@@ -1,3 +1,5 @@
+//! The states of a page, with its frame and its slot, and what backs it.
+
 ghost use Rattle.std.specs.Prelude.{◌≡◌, length};
 ghost use Rattle.frame_pool.specs.FrameValue.{zero_bytes};
 
@@ -152,7 +154,7 @@ fn write_page(to: &mut [u8; 4096], from: &[u8])
 /// Where a page is, with its frame and its slot.
 #[derive(Drop)]
 pub(crate) enum State<L: Ledger, S: SwapSlot> {
-    // The first five have a frame: one comparison tells it, at each access to a page's bytes.
+    // The first five have a frame: one comparison shows it, at each access to a page's bytes.
     Resident(Frame<L>, Keeping<S>),
     /// With the dirty bit that its entry had when it began to leave.
     Leaving(Frame<L>, Keeping<S>, bool),

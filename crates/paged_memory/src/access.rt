@@ -1,3 +1,5 @@
+//! Where a hart's access finds its page: by the hart's cache, else by a walk, which refills the cache.
+
 ghost use Rattle.std.specs.Prelude.{◌≡◌, ◌↔◌, ℕ, ◌<◌, ◌^◌, ◌%◌, length, Some, None, IfSome, IfOk};
 ghost use Rattle.std.specs.Prelude.{IfErr, OnOk, true, OnErr};
 ghost use Rattle.page_memory.specs.Words.{page_number, page_offset, bytes_in};
@@ -113,7 +115,7 @@ fn locate<L: Ledger, S: SwapSlot>(
     })
 }
 
-/// Whether a page's entry has D after a walk: what the leaf tells that the walk found.
+/// Whether a page's entry has D after a walk: what the leaf says that the walk found.
 fn is_dirty_after(tables: &PageTables, page: u32, walked: Result<Leaf, WalkFault>) -> bool
     requires small { page < 2 ^ 20 }
     requires told { IfOk walked (λ leaf. (entry_of leaf.pte.0).dirty ≡

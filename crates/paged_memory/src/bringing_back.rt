@@ -1,3 +1,5 @@
+//! A page that is leaving is resident again: mapped in its frame, as not yet used.
+
 ghost use Rattle.std.specs.Prelude.{◌≡◌, ◌<◌, ◌^◌, ◌↔◌, true, false, option_map, OnOk, OnErr};
 ghost use Rattle.std.specs.Prelude.{IsErr};
 ghost use Rattle.page_store.specs.PageValue.{page_state_of};

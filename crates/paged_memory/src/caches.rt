@@ -1,3 +1,5 @@
+//! The translation caches of a process's harts: look-up, refill, and what a TLB shootdown does to them.
+
 ghost use Rattle.std.specs.Prelude.{◌≡◌, ◌<◌, ◌≤◌, ◌%◌, [], ◌∷◌, ◌++◌, None, map, length, is_some};
 ghost use Rattle.std.specs.Prelude.{IfSome, option_copied, slice_get, slice_index_or, slice_set};
 ghost use Rattle.page_memory.specs.Words.{page_number, page_offset, bytes_in};
@@ -118,7 +120,7 @@ impl Caches {
             (slice_index_or self.old hart [])) }
         ensures apart { OnePerPage (slice_index_or self.old hart []) }
     {
-        // For the proof alone: a read tells that each page has one translation at most.
+        // For the proof only: a read shows that each page has one translation at most.
         let _ = self.harts.as_slice()[hart].entries();
         match miss {
             Miss::Unknown => self.harts.as_mut_slice()[hart].add(entry),

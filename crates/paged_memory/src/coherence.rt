@@ -1,3 +1,5 @@
+//! What pages, page tables and caches always say of one another, as a contract for other proofs.
+
 ghost use Rattle.paged_memory.specs.Paged.{Holds};
 ghost use Rattle.paged_memory.specs.Coherence.{MarksClear, HoldsFramed, CopiesUnmarked, WalksLead};
 
@@ -6,7 +8,7 @@ use std::sync::ledger::Ledger;
 use swap_slots::SwapSlot;
 
 impl<L: Ledger, S: SwapSlot> PagedMemory<L, S> {
-    /// What pages, tables and caches tell of one another between any two calls. It does nothing.
+    /// What pages, tables and caches say of one another between any two calls. It does nothing.
     #[tactic(auto, using(crate::proofs::CoherenceLaws::marks_clear))]
     pub fn coherent(&self)
         ensures agree { Holds S.content S.honest self.now.pages self.now.tables self.now.caches }
@@ -15,7 +17,7 @@ impl<L: Ledger, S: SwapSlot> PagedMemory<L, S> {
         ensures unmarked { CopiesUnmarked self.now.pages self.now.tables self.now.caches }
         ensures walks { WalksLead self.now.pages self.now.tables }
     {
-        // For the proof alone: a read tells its invariant.
+        // For the proof only: a read shows its invariant.
         let _ = &self.pages;
         self.tables.translates();
     }

@@ -1,3 +1,5 @@
+//! Whether a page that is leaving can let its frame go: only when no cache holds a translation of it.
+
 ghost use Rattle.std.specs.Prelude.{◌≡◌, ◌<◌, ◌^◌, false};
 ghost use Rattle.paged_memory.specs.Leaving.{CollectsAt, lets_go};
 ghost use Rattle.paged_memory.specs.Paged.{page_at, memory_of};

@@ -1,3 +1,5 @@
+//! The state of a page, its accessed bit (read and cleared), and the beginning of its eviction.
+
 ghost use Rattle.std.specs.Prelude.{◌≡◌, ◌<◌, ◌^◌, Some, None, option_map, OnSome, IfNone, OnOk};
 ghost use Rattle.std.specs.Prelude.{OnErr, IfErr};
 ghost use Rattle.page_store.specs.PageValue.{page_state_of};
@@ -21,7 +23,7 @@ impl<L: Ledger, S: SwapSlot> PagedMemory<L, S> {
         state_in(&self.pages, vpn)
     }
 
-    /// Clears the mark that a resident page was used, and tells what it was, or `None` where the page is not resident.
+    /// Clears the mark that a resident page was used, and answers what it was, or `None` where the page is not resident.
     /// Its translations are marked as ones to be dropped, so that the next use marks it again.
     pub fn test_and_clear_accessed(&mut self, vpn: u32) -> Option<bool>
         requires { vpn < 2 ^ 20 }

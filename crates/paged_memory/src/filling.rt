@@ -1,3 +1,5 @@
+//! A page-in: an absent page gets a frame, is filled from its slot or as it began, and is mapped.
+
 ghost use Rattle.std.specs.Prelude.{◌≡◌, ◌<◌, ◌^◌, true, false, Some, OnOk, OnErr, IfErr};
 ghost use Rattle.std.specs.Bool.{OnTrue, OnFalse};
 ghost use Rattle.sv32_table.specs.Entry.{page_entry};

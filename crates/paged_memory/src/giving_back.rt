@@ -1,3 +1,5 @@
+//! Takes the frames and slots of a process's pages back, one page at a time, by rising page number.
+
 ghost use Rattle.std.specs.Prelude.{◌≡◌, ◌<◌, ◌≤◌, ◌+◌, ◌^◌, ℕ, [], All, IfSome, IfNone};
 ghost use Rattle.std.specs.Bool.{OnTrue, OnFalse};
 ghost use Rattle.sv32_table.specs.Entry.{blank};
@@ -19,8 +21,8 @@ use swap_slots::SwapSlot;
 
 impl<L: Ledger, S: SwapSlot> PagedMemory<L, S> {
     /// Takes the frame and the slot of the first page, by number, that has either and is not being saved, once no hart has
-    /// a translation any more. The page is unmapped, and given up for good. No page before `from` has anything; beside what
-    /// the page had stands the number from which on others may have something still. `None` where there is no such page.
+    /// a translation any more. The page is unmapped, and given up for good. No page before `from` has anything; with what
+    /// the page had comes the number from which on others may have something still. `None` where there is no such page.
     #[tactic(auto, using(crate::proofs::GivingBackLaws::nothing_as_far))]
     pub fn take_from(&mut self, from: u32) -> Option<((Option<Frame<L>>, Option<S>), u32)>
         requires quiet { All (λ cache. cache ≡ []) self.old.caches }

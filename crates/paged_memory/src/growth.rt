@@ -1,3 +1,5 @@
+//! Maps new pages of a process, of its image or of zeros; none takes a frame yet.
+
 ghost use Rattle.std.specs.Prelude.{◌≡◌, true, ◌+◌, ◌≤◌, ◌<◌, ◌^◌, OnOk, OnErr, IsErr};
 ghost use Rattle.page_memory.specs.Memory.{with_zeroed};
 ghost use Rattle.page_memory.specs.Rights.{may};

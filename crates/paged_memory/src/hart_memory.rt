@@ -1,3 +1,5 @@
+//! The bus of one hart on paged memory: by its translation cache, else by a walk of the page tables.
+
 ghost use Rattle.std.specs.Prelude.{◌≡◌, ◌<◌, ◌+◌, ◌≤◌, length, OnErr};
 ghost use Rattle.page_memory.specs.Memory.{fetched, loaded, stored, replaced, loaded_reserved};
 ghost use Rattle.page_memory.specs.Memory.{stored_conditionally, copied_out, copied_in};

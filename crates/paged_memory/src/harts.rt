@@ -1,3 +1,5 @@
+//! The harts of a process's memory: an empty cache for a new one, and doomed or all translations dropped.
+
 ghost use Rattle.std.specs.Prelude.{◌≡◌, ◌<◌};
 ghost use Rattle.paged_memory.specs.Fresh.{AddsHart};
 ghost use Rattle.paged_memory.specs.Notices.{cleared, dropped, emptied};

@@ -1,3 +1,5 @@
+//! The memory of one process: its pages, its page tables, its harts' caches and their reservations.
+
 ghost use Rattle.std.specs.Prelude.{◌≡◌, [], IfOk};
 ghost use Rattle.paged_memory.specs.Fresh.{MapsFresh};
 ghost use Rattle.paged_memory.specs.Paged.{PagedValue};

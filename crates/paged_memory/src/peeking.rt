@@ -1,3 +1,5 @@
+//! Reads bytes of a process wherever its pages are, without a page-in and without setting A.
+
 ghost use Rattle.std.specs.Prelude.{◌≡◌, ◌+◌, ◌<◌, ◌≤◌, ◌^◌, Some, IfErr, OnErr, OnOk, length};
 ghost use Rattle.page_memory.specs.Words.{page_offset};
 ghost use Rattle.paged_memory.specs.Moving.{DoesNotShow, LeavesLookedAt, OnlyPages, ShowsIn};

@@ -1,3 +1,5 @@
+//! Fetches and loads from paged memory: from a page that is ready, else by a hart's cache or a walk.
+
 ghost use Rattle.std.specs.Prelude.{◌≡◌, ◌<◌, ◌%◌, length, is_some, Some, Ok, OnOk, true, IfOk};
 ghost use Rattle.std.specs.Prelude.{IfErr, IfSome};
 ghost use Rattle.page_memory.specs.Words.{page_number, page_offset, bytes_in};

@@ -1,3 +1,5 @@
+//! Whether bytes of any page of a process are on their way to a slot.
+
 ghost use Rattle.std.specs.Prelude.{◌≡◌, ◌<◌, ◌^◌};
 ghost use Rattle.std.specs.Bool.{OnTrue, OnFalse};
 ghost use Rattle.page_store.specs.PageValue.{is_out};

@@ -1,3 +1,5 @@
+//! Stores, atomic operations and copies into paged memory: to a page that is ready, else by cache or walk.
+
 ghost use Rattle.std.specs.Prelude.{◌≡◌, ◌+◌, ◌≤◌, ◌<◌, ◌%◌, length, is_some, Some, Ok, true};
 ghost use Rattle.std.specs.Prelude.{ℕ, drop};
 ghost use Rattle.page_memory.specs.Words.{page_number, page_offset, bytes_in};

@@ -1,3 +1,5 @@
+//! The debugger's target on paged memory: one process on its own machine, whose steps bring in their pages.
+
 ghost use Rattle.std.specs.Prelude.{◌≡◌, ◌+◌, ◌<◌, ◌≤◌, [], ◌∷◌, false, true, None, Some, IfOk, IsSome, slice_get};
 ghost use Rattle.flat_machine.specs.Process.{opening};
 ghost use Rattle.space_core.specs.StandsFor.{own_ending};
@@ -26,7 +28,7 @@ use std::marker::Model;
 use std::sync::ledger::{Blank, Ledger};
 use swap_slots::MemorySlot;
 
-/// A process on paged memory, alone on its machine, which brings its pages in by itself.
+/// A process on paged memory, the only one on its machine, which brings its pages in by itself.
 #[derive(Drop)]
 pub struct PagedTarget<L: Ledger, C: Clock> {
     core: Core<L, MemorySlot, C>,

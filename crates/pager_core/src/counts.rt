@@ -1,3 +1,5 @@
+//! How many page-ins, victims and questions there were, and how many frames are free.
+
 ghost use Rattle.std.specs.Prelude.{◌≡◌};
 ghost use Rattle.pager_core.specs.Pager.{tallied};
 

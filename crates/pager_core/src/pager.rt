@@ -1,3 +1,5 @@
+//! The free frames and the replacement list together: admission of pages, questions, answers and victims.
+
 ghost use Rattle.std.specs.Prelude.{◌≡◌, ◌≢◌, ◌+◌, ◌*◌, ◌<◌, ◌≤◌, ◌↔◌, ◌⊎◌, [], ◌∷◌, ◌++◌, length, IsTrue, IsOk, IsErr, IsNone, IsErrOf, IfOk, IfErr, OnOk, OnErr, Ok, Err, Some, None, true, false, slice_get, option_map, vec_len, vec_capacity};
 ghost use Rattle.clock_policy.specs.ClockPro.{question_of, answered, restored, withdrawn, purged, purge_count, kind_of};
 ghost use Rattle.clock_policy.specs.Lawful.{Lawful};

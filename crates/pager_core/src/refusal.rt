@@ -1,3 +1,5 @@
+//! Why a page is not admitted: it is resident, no frame is free, or there is no memory.
+
 use thiserror::Error;
 
 /// Why a page was not admitted, in the order in which the reasons are tested. Nothing has changed.

@@ -1,3 +1,5 @@
+//! Tests of a changed page: it is saved and comes back, or stays because its device fails.
+
 ghost use Rattle.std.specs.Prelude.{◌≡◌, ◌+◌};
 
 use frame_pool::{Frame, FramePool};
@@ -27,7 +29,7 @@ fn set_byte<L: Ledger, S: SwapSlot>(page: &mut Page<L, S>) {
     }
 }
 
-/// The byte that was stored, between the two beside it.
+/// The byte that was stored, between the two next to it.
 const STORED: [Option<u8>; 3] = [Some(0), Some(7), Some(0)];
 
 /// Where the page is, and what it shows of those bytes.

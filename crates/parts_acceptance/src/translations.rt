@@ -1,3 +1,5 @@
+//! Tests of a translation cache: which entry goes first, and for which accesses a page is ready, until when.
+
 ghost use Rattle.std.specs.Prelude.{◌≡◌, true};
 ghost use Rattle.page_memory.specs.Rights.{may};
 ghost use Rattle.page_memory.specs.Words.{page_number};
@@ -73,7 +75,7 @@ fn apply(cache: &mut Tlb, change: Change) {
     }
 }
 
-/// A cache with an entry of page 2 alone, which is ready for loads.
+/// A cache with only an entry of page 2, which is ready for loads.
 #[tactic(auto, using(tlb_core::specs::CacheLaws::hits_filled))]
 fn ready_at(address: u32) -> Tlb
     requires { page_number address ≡ 2 }

@@ -1,7 +1,9 @@
+//! How a process ended, as it is printed: `exited`, `trap` or `killed`, with the details.
+
 use flat_machine::End;
 use std::fmt;
 
-/// How a process ended, as it is told.
+/// How a process ended, as it is printed.
 #[derive(Clone, Copy)]
 pub struct Ending(pub End);
 

@@ -1,3 +1,5 @@
+//! An event, as the line that causes it in a drive script.
+
 use machine_core::Event;
 use std::fmt;
 

@@ -1,3 +1,5 @@
+//! Why a source is not assembled: its first fault, with the line, or no memory.
+
 ghost use Rattle.std.specs.Prelude.{◌≡◌};
 ghost use Rattle.rv_asm.specs.Errors.{error_on};
 

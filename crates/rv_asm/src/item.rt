@@ -1,3 +1,5 @@
+//! The items of a program: labels, parts of the text and parts of the data.
+
 ghost use Rattle.std.specs.Prelude.{◌≡◌, ◌≤◌};
 ghost use Rattle.rv_asm.specs.Program.{item_length};
 

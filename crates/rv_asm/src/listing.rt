@@ -1,3 +1,5 @@
+//! An assembled program: its image, the words of its text with their instructions, and the size of its data.
+
 ghost use Rattle.std.specs.Prelude.{◌≡◌};
 
 use elf_image::Image;

@@ -1,3 +1,5 @@
+//! The program that the first pass collects: items in order, places of labels, and sizes of sections.
+
 ghost use Rattle.std.specs.Prelude.{◌≡◌, ◌<◌, ◌≤◌, ◌+◌, ◌^◌, ◌==◌, IfOk, IfErr, IfSome, option_map, ℕ, List};
 ghost use Rattle.asm_lines.specs.Faults.{RefusesLine};
 ghost use Rattle.page_memory.specs.MemoryMap.{text_start};
@@ -27,7 +29,7 @@ const MOST_TEXT: u32 = 0x4_0000;
 const MOST_DATA: u32 = 0x10_0000;
 
 /// A program as far as its source is read: its items in the order of the source, the section to which the next line
-/// belongs, where each name stands, and how many bytes each section has.
+/// belongs, where each name is, and how many bytes each section has.
 #[derive(Drop)]
 pub(crate) struct Program<'a> {
     section: Section,
@@ -87,7 +89,7 @@ impl<'a> Program<'a> {
         self
     }
 
-    /// Where the next item of a section stands.
+    /// Where the next item of a section goes.
     fn end(&self, section: Section) -> LabelPlace
         ensures { result ≡ record { section = section; offset = size section self.now.items } }
     {
@@ -124,7 +126,7 @@ impl<'a> Program<'a> {
         self.text_size == 0
     }
 
-    /// The entry: the label `_start`, where it stands in the text before its end; else where the text begins.
+    /// The entry: the label `_start`, where it is in the text before its end; else where the text begins.
     #[tactic(auto, unfolding(crate::specs::Listing::entry_point_of))]
     pub(crate) fn entry(&self) -> u32
         ensures { result ≡ entry_point_of self.now.items }
@@ -140,7 +142,7 @@ impl<'a> Program<'a> {
         }
     }
 
-    /// The address of a label, if it stands anywhere.
+    /// The address of a label, if it is anywhere.
     #[tactic(auto, unfolding(crate::specs::Program::address_of))]
     pub(crate) fn address_of(&self, name: &[u8]) -> Option<u32>
         ensures address { result ≡ address_of self.now.items name.now }

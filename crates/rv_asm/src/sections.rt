@@ -1,3 +1,5 @@
+//! The second pass: the words of text and the bytes of data that the program's items put there, in order.
+
 ghost use Rattle.std.specs.Prelude.{◌≡◌, ◌<◌, ◌≤◌, ◌+◌, ◌*◌, ◌++◌, ◌∷◌, [], ◌^◌, IfOk, IfErr, length, map, replicate};
 ghost use Rattle.rv_asm.specs.Steps.{Fails, map_value, on_line};
 ghost use Rattle.rv_asm.specs.Program.{address_of};
@@ -92,7 +94,7 @@ impl Sections {
         }
     }
 
-    /// Where the next word of text stands.
+    /// Where the next word of text goes.
     fn next_address(&self) -> u32
         requires { length self.now.text ≤ 65536 }
         ensures { result ≡ next_address self.now }

@@ -1,9 +1,11 @@
+//! The words that a part of the text becomes: one or two, each an instruction or a plain number.
+
 ghost use Rattle.std.specs.Prelude.{◌≡◌};
 ghost use Rattle.rv_asm.specs.Words.{instruction_of, StandsForWord};
 
 use rv_isa::{Insn, encode};
 
-/// A word of text, as its source tells it.
+/// A word of text, as its source gives it.
 #[derive(Clone, Copy, Debug, PartialEq, Eq)]
 pub(crate) enum TextWord {
     /// The word of an instruction.

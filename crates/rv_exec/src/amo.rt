@@ -1,3 +1,5 @@
+//! The word that each atomic memory operation stores.
+
 ghost use Rattle.std.specs.Prelude.{◌≡◌};
 ghost use Rattle.rv_exec.specs.Amo.{amo_result};
 

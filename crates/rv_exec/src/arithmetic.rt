@@ -1,3 +1,5 @@
+//! What the operations of RV32I and M compute from words, and which branches are taken.
+
 ghost use Rattle.std.specs.Prelude.{◌≡◌};
 ghost use Rattle.rv_exec.specs.Arithmetic.{word_sum, even, result_of, immediate_operation};
 ghost use Rattle.rv_exec.specs.Arithmetic.{shift_operation, is_taken};

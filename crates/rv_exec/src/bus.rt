@@ -1,3 +1,5 @@
+//! The bus through which instructions reach memory: each call is one access, and may report an absent page.
+
 ghost use Rattle.std.specs.Prelude.{◌≡◌, ℕ, Bool, ◌+◌, ◌^◌, ◌<◌, ◌≤◌, [], length, OnOk, OnErr};
 ghost use Rattle.std.specs.Prelude.{IsErr, List, ◌∷◌};
 ghost use Rattle.page_memory.specs.declared.words.Access.{Access};
@@ -57,10 +59,10 @@ pub trait Bus {
     /// each that is marked as stored to the second.
     ghost within: { Self → (ℕ → Bool) → (ℕ → Bool) → Type 0 };
 
-    /// The pages that take stores: their marks tell of a store, or need not.
+    /// The pages that take stores: their marks show a store, or need not.
     ghost takes: { Self → ℕ → Type 0 };
 
-    /// That a page is not at hand for an access of a kind, behind accesses to these pages at the most.
+    /// That a page is not at hand for an access of a kind, after accesses to these pages at the most.
     ghost misses: { Self → List ℕ → Access → ℕ → Type 0 };
 
     /// What holds of the bus before and after any calls; `memory` aside, all that stays.

@@ -1,3 +1,5 @@
+//! Why an instruction traps, with the exception code of `mcause`.
+
 ghost use Rattle.std.specs.Prelude.{◌≡◌, ◌<◌};
 ghost use Rattle.rv_exec.specs.Causes.{cause_number, fetch_cause, load_cause, store_cause};
 

@@ -1,3 +1,5 @@
+//! Runs one instruction: fetches the word at pc and does what its form says, without building an `Insn`.
+
 ghost use Rattle.std.specs.Prelude.{◌≡◌, ℕ, []};
 ghost use Rattle.page_memory.specs.Memory.{Memory};
 ghost use Rattle.rv_isa.specs.Table.{insn_of, amo_of, reservation_of, system_of};

@@ -1,3 +1,5 @@
+//! Flat memory as a bus: no page is ever absent.
+
 ghost use Rattle.std.specs.Prelude.{◌≡◌, ℕ, Ok, Err, IfOk, IfErr, OnErr};
 ghost use Rattle.page_memory.specs.Memory.{replaced};
 ghost use Rattle.rv_exec.specs.Amo.{amo_result};

@@ -1,3 +1,5 @@
+//! What becomes of an instruction: it is done, calls, traps, or uses an absent page.
+
 use crate::cause::Cause;
 
 /// What became of a hart's next instruction.

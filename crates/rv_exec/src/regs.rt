@@ -1,3 +1,5 @@
+//! A hart's registers: pc and `x0` to `x31`, of which `x0` is always 0.
+
 ghost use Rattle.std.specs.Prelude.{◌≡◌, ◌<◌};
 ghost use Rattle.rv_exec.specs.Line.{address_at};
 ghost use Rattle.rv_exec.specs.Registers.{register, with_register, with_pc, next_pc, cleared};

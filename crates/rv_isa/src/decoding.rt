@@ -1,3 +1,5 @@
+//! From a word to its instruction, if it is one of RV32I, M or A.
+
 ghost use Rattle.std.specs.Prelude.{◌≡◌, IfSome};
 ghost use Rattle.rv_isa.specs.declared.instruction.Insn.{Insn};
 ghost use Rattle.rv_isa.specs.Table.{Agrees, insn_of, jalr_of, branch_of, load_of, store_of, op_immediate_of, shift_of, op_of, fence_of, amo_of, reservation_of, system_of};

@@ -1,3 +1,5 @@
+//! From an instruction to its word, by the manual's formats.
+
 ghost use Rattle.std.specs.Prelude.{◌≡◌, ℕ, ◌^◌, ◌<◌};
 ghost use Rattle.rv_isa.specs.Table.{Agrees, IsRFormat, IsIFormat, IsSFormat, IsBFormat, IsUFormat, IsJFormat, IsFenceFormat, IsAmoFormat, branch_code, load_code, store_code, immediate_code, shift_code, op_code, amo_code, flag_code};
 

@@ -1,3 +1,5 @@
+//! The fields of an instruction word: opcode, funct3, funct7, registers, and the immediates of the formats.
+
 ghost use Rattle.std.specs.Prelude.{◌≡◌, pos, ◌-ℤ◌, ◌+◌, ◌-◌, ◌*◌, ◌^◌, ◌<◌, ◌≤◌};
 ghost use Rattle.rv_isa.specs.Bits.{bits, signed};
 ghost use Rattle.rv_isa.specs.Table.{i_immediate, s_immediate, b_immediate, u_immediate, j_immediate};

@@ -1,3 +1,5 @@
+//! The instructions of RV32I, M and A, with operands that are in range by their types.
+
 use super::kinds::{AmoKind, BranchKind, ImmediateKind, LoadKind, OpKind, ShiftKind, StoreKind};
 use super::operands::{
     BranchOffset, FenceBits, Immediate, JumpOffset, Reg, ShiftAmount, UpperImmediate,

@@ -1,3 +1,5 @@
+//! Laws of the instruction table: a word has at most one instruction, and an instruction at most one word.
+
 ghost use Rattle.std.specs.Prelude.{◌≡◌, ℕ, ◌^◌, ◌<◌};
 ghost use Rattle.rv_isa.specs.declared.instruction.Insn.{Insn};
 ghost use Rattle.rv_isa.specs.Table.{Agrees, insn_of};

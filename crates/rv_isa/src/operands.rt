@@ -1,3 +1,5 @@
+//! The operands of instructions: each type holds only values that fit its field.
+
 mod branch;
 mod fence;
 mod jump;

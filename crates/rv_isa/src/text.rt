@@ -1,10 +1,12 @@
+//! Instructions as assembler text, with numeric registers; branches and jumps show distances in bytes.
+
 use super::instruction::Insn;
 use super::kinds::{AmoKind, BranchKind, ImmediateKind, LoadKind, OpKind, ShiftKind, StoreKind};
 use super::operands::{FenceBits, Immediate, Reg};
 use std::fmt;
 use std::fmt::Write;
 
-/// Writes an instruction as assembler text: numeric registers, decimal numbers, and operands parted by a comma alone.
+/// Writes an instruction as assembler text: numeric registers, decimal numbers, and operands parted only by a comma.
 ///
 /// The target of a branch or jump is its signed distance in bytes, where the assembler has a label.
 pub fn write_text<W: fmt::Write>(insn: Insn, out: &mut W) -> fmt::Result {

@@ -1,3 +1,5 @@
+//! Plays a machine on one thread until each process has ended, or up to a limit of events.
+
 ghost use Rattle.std.specs.Prelude.{◌≡◌, ◌<◌, ◌≤◌, ◌*◌, ℕ, map, max, List, false, None, IfNone};
 ghost use Rattle.std.specs.Prelude.{IfSome};
 ghost use Rattle.machine_core.specs.Applying.{LeadsTo};
@@ -36,7 +38,7 @@ pub fn play<L: Ledger, S: SwapSlot, C: Clock>(core: &mut Core<L, S, C>, slice: u
         (max slice 1) limit core.old core.new }
     ensures ended { (number : ℕ) → HasEnded core.new number }
 
-    // Of a machine that has just begun, each process tells of a flat run of the image and the input that it was given.
+    // Of a machine that has just begun, each process shows a flat run of the image and the input that it was given.
     ensures flat { (frames : ℕ) → (free : List S) → (starts : List Start) →
         MachineBegins frames free starts core.old → S.honest →
         HaveLines starts (map come_to core.new.processes) }
@@ -50,7 +52,7 @@ pub fn play<L: Ledger, S: SwapSlot, C: Clock>(core: &mut Core<L, S, C>, slice: u
     core.faithful();
 }
 
-/// Plays a machine until each process has ended, or so many events have happened. Tells the page whose save is out then.
+/// Plays a machine until each process has ended, or so many events have happened. Answers the page whose save is out then.
 fn play_events<L: Ledger, S: SwapSlot, C: Clock>(
     core: &mut Core<L, S, C>,
     turns: &mut Turns,
@@ -101,7 +103,7 @@ pub(crate) fn what_is_next<L: Ledger, S: SwapSlot, C: Clock>(
     }))
 }
 
-/// Does what comes next, and tells how many events that was.
+/// Does what comes next, and answers how many events that was.
 pub(crate) fn act<L: Ledger, S: SwapSlot, C: Clock>(
     core: &mut Core<L, S, C>,
     turns: &mut Turns,
@@ -147,7 +149,7 @@ fn apply<L: Ledger, S: SwapSlot, C: Clock>(
     1
 }
 
-/// Runs steps of a hart, and tells how many events that was.
+/// Runs steps of a hart, and answers how many events that was.
 fn run<L: Ledger, S: SwapSlot, C: Clock>(
     core: &mut Core<L, S, C>,
     turns: &mut Turns,

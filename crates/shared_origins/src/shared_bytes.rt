@@ -1,3 +1,5 @@
+//! Bytes that several holders share, such as the input of a process.
+
 ghost use Rattle.std.specs.Prelude.{◌≡◌, IfOk};
 
 use std::alloc::{AllocError, Global};

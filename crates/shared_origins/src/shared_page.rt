@@ -1,3 +1,5 @@
+//! A page whose bytes several holders share, each with its own rights to it.
+
 ghost use Rattle.std.specs.Prelude.{◌≡◌, IfOk, length};
 
 use page_memory::{PAGE_SIZE, Page, Rights};

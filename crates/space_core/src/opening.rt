@@ -1,3 +1,5 @@
+//! A process on paged memory before its first step, with no page in a frame.
+
 ghost use Rattle.std.specs.Prelude.{◌≡◌, ◌≢◌, [], false, IfOk};
 ghost use Rattle.std.specs.Bool.{OnTrue, OnFalse};
 ghost use Rattle.page_memory.specs.Reservations.{none_reserved};

@@ -1,3 +1,5 @@
+//! What a step or a slice of a hart comes to, and why a slice stops.
+
 ghost use Rattle.std.specs.Bool.{OnTrue, OnFalse};
 ghost use Rattle.std.specs.Prelude.{◌≡◌, ◌≢◌};
 ghost use Rattle.space_core.specs.Next.{progress_of_step, stop_after, stop_before};
@@ -31,7 +33,7 @@ pub struct Slice {
 pub struct Steps {
     /// How many ran and passed on to the next one.
     pub ran: u32,
-    /// The slice of one instruction behind them, where there were fewer than were allowed.
+    /// The slice of one instruction after them, where there were fewer than were allowed.
     pub last: Option<Slice>,
 }
 

@@ -1,3 +1,5 @@
+//! A process without its memory, with the schedule that records each instruction it runs.
+
 ghost use Rattle.std.specs.Prelude.{◌≡◌, ◌≤◌, ◌<◌, true, [], min, length, option_map, Some, IfNone};
 ghost use Rattle.std.specs.Prelude.{IfSome, IfOk};
 ghost use Rattle.std.specs.Option.{option_or};
@@ -20,7 +22,7 @@ use std::marker::Model;
 use std::sync::ledger::Ledger;
 use swap_slots::SwapSlot;
 
-/// What a process is beside its memory, with the schedule of the instructions that it ran.
+/// What a process is besides its memory, with the schedule of the instructions that it ran.
 #[derive(Drop)]
 pub struct Recorded {
     pub(crate) running: Running,
@@ -108,7 +110,7 @@ impl Recorded {
         self.running.into_output()
     }
 
-    /// What the process is beside its memory and schedule.
+    /// What the process is besides its memory and schedule.
     pub fn running(&self) -> &Running
         ensures { result.now ≡ self.now.running }
     {

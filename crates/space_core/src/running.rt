@@ -1,3 +1,5 @@
+//! A process without its memory: its harts' registers, its environment, and its ending.
+
 ghost use Rattle.std.specs.Prelude.{◌≡◌, ◌≤◌, Some, option_copied, slice_get, slice_index_or};
 ghost use Rattle.std.specs.Prelude.{false, length, IfOk};
 ghost use Rattle.std.specs.Option.{option_or};
@@ -14,7 +16,7 @@ use shared_origins::SharedBytes;
 use std::alloc::{AllocError, Global};
 use std::marker::Model;
 
-/// What a process is beside its memory.
+/// What a process is besides its memory.
 #[derive(Drop)]
 pub struct Running {
     /// By number; the room for all harts that a process may start is there.

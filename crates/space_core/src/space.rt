@@ -1,3 +1,5 @@
+//! A process on paged memory: what it shows of its run, and how its pages begin to leave their frames.
+
 ghost use Rattle.std.specs.Prelude.{◌≡◌, ◌<◌, ◌≤◌, ◌^◌, true, Some, option_copied, slice_get};
 ghost use Rattle.std.specs.Prelude.{OnSome, IfNone, OnOk, OnErr, IfErr};
 ghost use Rattle.std.specs.Option.{option_or};
@@ -64,7 +66,7 @@ impl<L: Ledger, S: SwapSlot> Space<L, S> {
         self.memory.state(vpn)
     }
 
-    /// Counts the pages that stand in frames.
+    /// Counts the pages that are in frames.
     pub fn held_pages(&self) -> HeldPages
         ensures resident { result.resident ≡ residents_among self.now.memory (λ _. true) }
         ensures framed { result.framed ≡ frames_among self.now.memory (λ _. true) }
@@ -74,7 +76,7 @@ impl<L: Ledger, S: SwapSlot> Space<L, S> {
         self.memory.held_pages()
     }
 
-    /// Clears the mark that a resident page was used, and tells what it was, or `None` where the page is not resident.
+    /// Clears the mark that a resident page was used, and answers what it was, or `None` where the page is not resident.
     /// Its translations are marked as ones to be dropped, so that the next use marks it again.
     pub fn test_and_clear(&mut self, vpn: u32) -> Option<bool>
         requires { vpn < 2 ^ 20 }

@@ -1,3 +1,5 @@
+//! What always holds of a process, as a contract for other proofs; the function does nothing.
+
 ghost use Rattle.std.specs.Prelude.{◌≡◌, length};
 ghost use Rattle.paged_memory.specs.Coheres.{HoldsIn, MarksClearIn, HoldsFramedIn};
 ghost use Rattle.paged_memory.specs.Coheres.{CopiesUnmarkedIn, WalksLeadIn};
@@ -20,7 +22,7 @@ impl<L: Ledger, S: SwapSlot> Space<L, S> {
         ensures unmarked { CopiesUnmarkedIn self.now.memory }
         ensures walks { WalksLeadIn self.now.memory }
     {
-        // For the proof alone: a read tells its invariant.
+        // For the proof only: a read shows its invariant.
         let _ = &self.image;
         self.memory.coherent();
     }

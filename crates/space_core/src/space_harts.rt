@@ -1,3 +1,5 @@
+//! Whether a hart of a process is live.
+
 ghost use Rattle.std.specs.Prelude.{◌≡◌, slice_index_or, false};
 
 use crate::space::Space;

@@ -1,3 +1,5 @@
+//! Read-only access to the memory of a process.
+
 ghost use Rattle.std.specs.Prelude.{◌≡◌};
 
 use crate::space::Space;

@@ -1,3 +1,5 @@
+//! What can happen to a page that is leaving: it lets its frame go, its save ends, or it is mapped again.
+
 ghost use Rattle.std.specs.Prelude.{◌≡◌, ◌<◌, ◌^◌, ◌↔◌, false, IfOk, IfErr, OnOk, OnErr, IsErr};
 ghost use Rattle.paged_memory.specs.Leaving.{lets_go};
 ghost use Rattle.paged_memory.specs.Copies.{LeavesCopies};

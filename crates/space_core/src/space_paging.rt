@@ -1,3 +1,5 @@
+//! How the pages of a process come in and are given back, and its bytes without a page-in.
+
 ghost use Rattle.std.specs.Prelude.{◌≡◌, ◌+◌, ◌<◌, ◌≤◌, ◌^◌, length, true, Some, IsSome, IfSome};
 ghost use Rattle.std.specs.Prelude.{IfNone, OnOk, OnErr, IfErr};
 ghost use Rattle.std.specs.Bool.{OnTrue, OnFalse};

@@ -1,3 +1,5 @@
+//! What is shown of one page of a process: its state, frame and bits.
+
 ghost use Rattle.std.specs.Prelude.{◌≡◌, ◌<◌, ◌^◌, is_some};
 ghost use Rattle.paged_memory.specs.PageStatus.{status_in};
 

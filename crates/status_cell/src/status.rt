@@ -1,3 +1,5 @@
+//! The published counts of a process: completed instructions and written bytes.
+
 ghost use Rattle.std.specs.Prelude.{[], ◌∷◌};
 
 use crossbeam_utils::atomic::Words;

@@ -1,3 +1,5 @@
+//! A test with two threads: counts never fall, each pair is seen whole, and the last pair is seen.
+
 ghost use Rattle.std.specs.Prelude.{◌≡◌};
 ghost use Rattle.status_cell.specs.Counts.{nothing};
 

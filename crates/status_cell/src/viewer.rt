@@ -1,3 +1,5 @@
+//! A viewer of a process's published counts, which never fall for it; viewers can be split and joined.
+
 ghost use Rattle.std.specs.Prelude.{◌≡◌, false, IfOk};
 ghost use Rattle.std.specs.Arc.{arc_value};
 ghost use Rattle.crossbeam_utils.specs.Seq.{cell_view};

@@ -1,3 +1,5 @@
+//! The one writer of a process's published counts, and the making of a cell for them.
+
 ghost use Rattle.std.specs.Prelude.{◌≡◌, IfOk};
 ghost use Rattle.status_cell.specs.Counts.{AtMost, nothing};
 

@@ -1,3 +1,5 @@
+//! Why a walk gives no address, why a page is not mapped, and that a table does not exist.
+
 use thiserror::Error;
 
 /// Why a walk gives no physical address, in the order of their numbers.

@@ -1,3 +1,5 @@
+//! The Sv32 page tables of one process, which form a tree: a call for one page leaves all other entries.
+
 ghost use Rattle.std.specs.Prelude.{◌≡◌, ◌<◌, ◌/◌, ◌^◌, List, ℕ, true, false, IfNone, IfOk, IsErr, OnOk, OnErr};
 ghost use Rattle.sv32_table.specs.Entry.{blank, entry_of, leaf_entry, page_entry};
 ghost use Rattle.sv32_table.specs.EntryAt.{entry_at, ChangesEntry, walk_entry, walked_entry, valid_word, unmapped_entry, accessed_of, dirty_of, dirty_mark_of, unaccessed_entry, undirtied_entry, has_table, SameTables, AddsTable};
@@ -12,7 +14,7 @@ use page_memory::{Access, Rights};
 use std::alloc::{AllocError, Global};
 use std::marker::Model;
 
-/// The Sv32 page tables of one process, as `map` alone makes them: they form a tree, so that each page has an entry of
+/// The Sv32 page tables of one process, as only `map` makes them: they form a tree, so that each page has an entry of
 /// its own, and a call for one page leaves the entries of the others.
 #[derive(Drop)]
 pub struct PageTables {
@@ -63,7 +65,7 @@ impl PageTables {
     pub fn translates(&self)
         ensures { LeadsByEntry self.now }
     {
-        // For the proof alone: a read tells its invariant.
+        // For the proof only: a read shows its invariant.
         let _ = &self.tables;
     }
 

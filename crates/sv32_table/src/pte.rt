@@ -1,3 +1,5 @@
+//! One page-table entry of Sv32: its flags, its physical page number, and what the manual's walk asks of it.
+
 ghost use Rattle.std.specs.Prelude.{⊤, ◌≡◌, ◌<◌, ◌^◌, true, false, [], ◌∷◌, codes, ℕ, if◌then◌else◌, IsTrue, ◌↔◌};
 ghost use Rattle.sv32_table.specs.Entry.{entry_of, word_of, shape_of, has_reserved, allows, is_aligned, touched, leaf_entry, page_entry, pointer_entry, weigh};
 

@@ -1,3 +1,5 @@
+//! Sv32 page tables that may hold any words: mapping a page, changing its entry, and the walk in user mode.
+
 ghost use Rattle.std.specs.Prelude.{◌≡◌, ◌<◌, ◌≤◌, ◌+◌, ◌/◌, ◌%◌, ◌^◌, ◌∷◌, ◌++◌, [], List, ℕ, true, length, IfOk, IfSome, IsErr, IsErrOf, OnOk, OnErr, ◌↔◌, None, option_map, false, IfNone};
 ghost use Rattle.sv32_table.specs.Entry.{Entry, entry_of, word_of, leaf_entry};
 ghost use Rattle.sv32_table.specs.EntryAt.{has_table};
@@ -11,7 +13,7 @@ use page_memory::{Access, Rights};
 use std::alloc::{AllocError, Global};
 use std::marker::Model;
 
-/// The physical page of the root table; table k stands k pages behind it.
+/// The physical page of the root table; table k is k pages after it.
 pub const TABLE_PPN: u32 = 0x20_0000;
 
 /// The most tables that a process can have.
@@ -181,7 +183,7 @@ impl Tables {
         ensures table { result ≡ table_for self.now vpn }
         ensures within { IfSome result (λ table. table < length self.now) }
     {
-        // For the proof alone: a read tells its invariant.
+        // For the proof only: a read shows its invariant.
         let _ = &self.tables;
         let root = Pte(self.word(0, (vpn / 1024) as usize));
         match root.shape() {
@@ -190,7 +192,7 @@ impl Tables {
         }
     }
 
-    /// Puts a new table of zeros behind the others, and makes a root word point to it.
+    /// Puts a new table of zeros after the others, and makes a root word point to it.
     #[tactic(auto, unfolding(crate::specs::Tables::with_table, crate::specs::Tables::zero_table))]
     fn add_table(&mut self, index: u32) -> Result<usize, MapFault>
         requires { index < 1024 }
@@ -260,7 +262,7 @@ impl Tables {
         ensures within { IfOk result (λ place. (place.table < length self.now) ×
             (place.index < 1024)) }
     {
-        // For the proof alone: a read tells its invariant.
+        // For the proof only: a read shows its invariant.
         let _ = &self.tables;
         let index = (address / 0x40_0000) as usize;
         let root = Pte(self.word(0, index));
@@ -312,7 +314,7 @@ impl Tables {
         ensures words { self.new ≡ (walked self.old address access).1 }
         ensures manual { IsTranslation self.old address access result self.new }
     {
-        // For the proof alone: a read tells its invariant.
+        // For the proof only: a read shows its invariant.
         let _ = &self.tables;
         self.walk_tables(address, access)
     }

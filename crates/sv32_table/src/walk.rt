@@ -1,3 +1,5 @@
+//! What a walk finds: where the leaf is, the leaf as the walk left it, and the physical address.
+
 use crate::pte::Pte;
 
 /// The place of a leaf: a word of a table, of the root's (a superpage's) or of another's.

@@ -1,3 +1,5 @@
+//! A slot in memory that works for a number of calls, and then fails in each one.
+
 ghost use Rattle.std.specs.Prelude.{◌≡◌, ◌-◌, ◌+◌, ◌^◌, ◌<◌, ◌≤◌, ◌↔◌, ⊤, min, IfOk, IsOk, OnOk, OnErr, true};
 ghost use Rattle.swap_slots.specs.Slot.{Rose, zero_content};
 

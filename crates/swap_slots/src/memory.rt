@@ -1,3 +1,5 @@
+//! A slot in memory, which never fails.
+
 ghost use Rattle.std.specs.Prelude.{◌≡◌, ◌≤◌, ⊤, IfOk, IsOk, OnOk, OnErr, true};
 ghost use Rattle.swap_slots.specs.Slot.{Rose, zero_content};
 

@@ -1,3 +1,5 @@
+//! The pool of free slots: the one that was given back last is taken first.
+
 ghost use Rattle.std.specs.Prelude.{◌≡◌, ◌≤◌, ◌↔◌, [], ◌∷◌, ◌++◌, length, vec_len, IsTrue, OnOk, OnErr, IfErr, IsErr, IsNone, IfNone, IfSome};
 
 use std::marker::Model;

@@ -1,3 +1,5 @@
+//! What a kind of slot has to do: save a page, load it, and count failures; and when it is honest.
+
 ghost use Rattle.std.specs.Prelude.{◌≡◌, ◌≤◌, ℕ, List, IsTrue, OnOk, OnErr};
 ghost use Rattle.swap_slots.specs.Slot.{Rose};
 
@@ -16,10 +18,10 @@ pub trait SwapSlot: Drop {
     /// How often the device failed.
     ghost failures: { Self → ℕ };
 
-    /// Whether slots of this kind keep what was saved. A kind that can't tell, as one over a file, takes `⊥`.
+    /// Whether slots of this kind keep what was saved. A kind that can't know, as one over a file, takes `⊥`.
     ghost honest: { Type 0 };
 
-    /// Whether slots of this kind are known to be honest: what stands above then takes no digest of what it saves and loads.
+    /// Whether slots of this kind are known to be honest: what is above then takes no digest of what it saves and loads.
     /// A kind that answers `false` may be honest all the same.
     fn is_known_honest() -> bool
         ensures known { IsTrue result → honest };

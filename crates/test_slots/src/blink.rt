@@ -1,3 +1,5 @@
+//! A slot in memory that fails in one call, by its number, and works before and after it.
+
 ghost use Rattle.std.specs.Prelude.{◌≡◌, ◌-◌, ◌+◌, ◌^◌, ◌≤◌, ◌↔◌, ⊤, min, IfOk, IsErr, OnOk, OnErr, false};
 ghost use Rattle.swap_slots.specs.Slot.{Rose, zero_content};
 
@@ -5,7 +7,7 @@ use std::alloc::{AllocError, Global};
 use std::marker::Model;
 use swap_slots::{MemorySlot, SlotFault, SwapSlot};
 
-/// A slot in memory of whose calls one fails alone, to try what stands above a device that fails and then goes on.
+/// A slot in memory of whose calls only one fails, to try what is above a device that fails and then goes on.
 #[derive(Drop)]
 pub struct BlinkSlot {
     slot: MemorySlot,

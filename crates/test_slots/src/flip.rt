@@ -1,3 +1,5 @@
+//! A slot in memory that lies in one load: it flips one bit of the page and reports no failure.
+
 ghost use Rattle.std.specs.Prelude.{◌≡◌, ◌-◌, ◌≤◌, ◌==◌, if◌then◌else◌, IfOk, IsOk, OnOk, OnErr, false};
 ghost use Rattle.test_slots.specs.Flipped.{flipped};
 ghost use Rattle.swap_slots.specs.Slot.{Rose, zero_content};

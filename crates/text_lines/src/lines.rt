@@ -1,3 +1,5 @@
+//! The lines of a text, one at a time, separated by line feeds.
+
 ghost use Rattle.std.specs.Prelude.{◌≡◌, ◌<◌, ◌∷◌, [], length, position, IfSome, MatchOption};
 ghost use Rattle.text_lines.specs.Text.{lines_of, is_line_end};
 
@@ -18,7 +20,7 @@ pub fn next_line(text: &[u8]) -> Option<(&[u8], &[u8])>
     }
 }
 
-/// Where the first line feed stands.
+/// Where the first line feed is.
 fn line_end(text: &[u8]) -> Option<usize>
     ensures { result ≡ position is_line_end text.now }
 {

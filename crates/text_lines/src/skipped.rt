@@ -1,3 +1,5 @@
+//! Which lines of a script are skipped: empty ones, and remarks, which begin with `#`.
+
 ghost use Rattle.std.specs.Prelude.{◌↔◌, IsTrue};
 ghost use Rattle.text_lines.specs.Lines.{IsSkipped};
 

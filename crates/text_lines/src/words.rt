@@ -1,3 +1,5 @@
+//! The words of a line, one at a time, separated by spaces and tabs.
+
 ghost use Rattle.std.specs.Prelude.{◌≡◌, ◌<◌, ◌∷◌, [], length, position, IfSome, MatchOption};
 ghost use Rattle.text_lines.specs.Text.{words_of, parts_at, is_blank};
 
@@ -18,7 +20,7 @@ pub fn next_word(line: &[u8]) -> Option<(&[u8], &[u8])>
     None
 }
 
-/// What stands before the first blank, and what stands behind it.
+/// What is before the first blank, and what is after it.
 #[tactic(auto, using(crate::proofs::Parts::parts_at_end_found, crate::proofs::Parts::parts_at_no_end))]
 fn split_part(text: &[u8]) -> (&[u8], &[u8])
     requires { 0 < length text.now }
@@ -31,7 +33,7 @@ fn split_part(text: &[u8]) -> (&[u8], &[u8])
     }
 }
 
-/// Where the first space or tab stands.
+/// Where the first space or tab is.
 fn blank(text: &[u8]) -> Option<usize>
     ensures { result ≡ position is_blank text.now }
 {

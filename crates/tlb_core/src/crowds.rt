@@ -1,3 +1,5 @@
+//! How many cached entries share the low 8 bits of their page numbers: if none does, no search is needed.
+
 ghost use Rattle.std.specs.Prelude.{◌≡◌, ◌+◌, ◌-◌, ◌%◌, ◌<◌, ◌==◌, ◌≤◌, [], length, slice_index_or, slice_set};
 ghost use Rattle.tlb_core.specs.Crowds.{Counts, pages_of};
 

@@ -1,3 +1,5 @@
+//! At most 16 cached translations, the oldest first, in a row of 32 places so that they move rarely.
+
 ghost use Rattle.std.specs.Prelude.{◌≡◌, ◌+◌, ◌-◌, ◌<◌, ◌≤◌, ◌==◌, [], ◌∷◌, ◌++◌, length, drop, take, slice_index_or, slice_set};
 ghost use Rattle.arrayvec.specs.ArrayVec.{array_vec_len};
 ghost use Rattle.tlb_core.specs.Cache.{doomed, undoomed};
@@ -10,7 +12,7 @@ use std::marker::Model;
 /// sixteen times at most.
 const ROW: usize = 32;
 
-/// At most 16 entries, the oldest first. They stand in a row, and stay where they are when the oldest goes.
+/// At most 16 entries, the oldest first. They are in a row, and stay where they are when the oldest goes.
 #[derive(Drop)]
 pub(crate) struct Entries {
     row: ArrayVec<Translation, ROW>,
@@ -55,7 +57,7 @@ impl Entries {
         self.row.len() - self.gone
     }
 
-    /// Puts an entry behind the others.
+    /// Puts an entry after the others.
     #[tactic(auto, using(crate::proofs::Rows::pushed))]
     pub(crate) fn push(&mut self, entry: Translation)
         requires { length self.old < 16 }
@@ -113,7 +115,7 @@ impl Entries {
     }
 }
 
-/// Makes room for one more behind fewer than 16 entries: where the row is at its end, they are moved to its beginning.
+/// Makes room for one more after fewer than 16 entries: where the row is at its end, they are moved to its beginning.
 /// Answers how many are gone before them then.
 fn make_room(row: &mut ArrayVec<Translation, ROW>, gone: usize) -> usize
     requires within { gone ≤ length row.old.items }

@@ -1,3 +1,5 @@
+//! Where a cache looks first for the entry of a page. A wrong hint costs only time.
+
 ghost use Rattle.std.specs.Prelude.{◌<◌, ◌≤◌, length};
 
 use crate::translation::Translation;
@@ -35,7 +37,7 @@ impl Hints {
         self.places[(page as usize) % HINTS] = (place as u8).wrapping_add(self.gone);
     }
 
-    /// The entries stand in this order.
+    /// The entries are in this order.
     pub fn set(&mut self, entries: &[Translation])
         requires { length entries.now ≤ 16 }
     {
@@ -44,7 +46,7 @@ impl Hints {
         }
     }
 
-    /// The first entry is gone, and each other stands one place before.
+    /// The first entry is gone, and each other is one place before.
     pub fn first_is_gone(&mut self) {
         self.gone = self.gone.wrapping_add(1);
     }

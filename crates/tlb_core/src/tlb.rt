@@ -1,3 +1,5 @@
+//! A hart's translation cache: at most 16 entries, at most one for each page; the oldest goes first.
+
 ghost use Rattle.std.specs.Prelude.{◌≡◌, ◌<◌, ◌≤◌, ◌%◌, ℕ, [], ◌∷◌, ◌++◌, length, is_some, Some, None, position, slice_set, IfSome};
 ghost use Rattle.std.specs.List.{list_any};
 ghost use Rattle.page_memory.specs.Words.{page_number, page_offset, bytes_in};
@@ -85,7 +87,7 @@ impl Tlb {
         }
     }
 
-    /// Where an aligned access has its bytes, if the address's page is ready. One comparison tells it.
+    /// Where an aligned access has its bytes, if the address's page is ready. One comparison shows it.
     #[inline]
     pub fn ready(&self, access: Access, width: Width, address: u32) -> Option<Spot>
         ensures aligned { IfSome result (λ _. address % bytes_in width ≡ 0) }
@@ -122,7 +124,7 @@ impl Tlb {
     pub fn holds_dirty(&self, page: u32) -> bool
         ensures mark { result ≡ holds_mark page self.now }
     {
-        // For the proof alone: a page has at most one entry.
+        // For the proof only: a page has at most one entry.
         let _ = &self.entries;
         match self.look(page) {
             Some(entry) => entry.dirty,
@@ -141,7 +143,7 @@ impl Tlb {
         }
     }
 
-    /// Puts an entry in: in place of its page's where there is one, else behind the others. The oldest of 16 goes for it.
+    /// Puts an entry in: in place of its page's where there is one, else after the others. The oldest of 16 goes for it.
     #[tactic(auto, using(crate::proofs::Places::filled_in_place, crate::proofs::Places::filled_behind, crate::specs::CacheLaws::find_nowhere))]
     pub fn fill(&mut self, entry: Translation)
         ensures { self.new ≡ filled entry self.old }
@@ -172,7 +174,7 @@ impl Tlb {
         self.ready.forget(entry.page);
     }
 
-    /// Where the entry of a page stands.
+    /// Where the entry of a page is.
     #[tactic(auto, using(crate::proofs::Places::place_within))]
     fn place_of(&self, page: u32) -> Option<usize>
         ensures place { result ≡ position (is_of_page page) self.now }
@@ -184,7 +186,7 @@ impl Tlb {
             .position(|entry| entry.page == page)
     }
 
-    /// Puts the entry of a page that has none behind the others.
+    /// Puts the entry of a page that has none after the others.
     #[inline(always)]
     fn append(&mut self, entry: Translation)
         requires { translation_of entry.page self.old ≡ None }

@@ -1,3 +1,5 @@
+//! One cached translation: page, place, frame and rights, with its dirty and doomed marks.
+
 use bitflags::Flags;
 use page_memory::Rights;
 
@@ -6,7 +8,7 @@ use page_memory::Rights;
 pub struct Translation {
     /// The virtual page number.
     pub page: u32,
-    /// Where the page stands among its process's pages.
+    /// Where the page is among its process's pages.
     pub place: usize,
     /// The physical page number of its frame.
     pub frame: u32,
@@ -18,7 +20,7 @@ pub struct Translation {
     pub doomed: bool,
 }
 
-/// What stands in a place that no entry has.
+/// What is in a place that no entry has.
 impl Default for Translation {
     fn default() -> Translation {
         Translation {

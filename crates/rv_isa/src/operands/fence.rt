@@ -1,3 +1,5 @@
+//! The upper 12 bits of a fence's word, which are kept as they are.
+
 ghost use Rattle.std.specs.Prelude.{◌≡◌, ◌^◌, ◌<◌, ◌↔◌, IsSome, IfSome};
 
 use std::marker::Model;

@@ -1,3 +1,5 @@
+//! The distance of a jump (J format), in bytes: even, 21 bits, signed.
+
 ghost use Rattle.std.specs.Prelude.{◌≡◌, ◌↔◌, IsSome, IfSome};
 ghost use Rattle.std.specs.Int.{w32, cast_unsigned};
 ghost use Rattle.rv_isa.specs.Operands.{IsJumpOffset};

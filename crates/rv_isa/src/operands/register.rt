@@ -1,3 +1,5 @@
+//! The registers that instructions name, by their numbers below 32.
+
 ghost use Rattle.std.specs.Prelude.{◌≡◌, ◌<◌, ◌↔◌, IsSome, IfSome};
 
 use std::marker::Model;

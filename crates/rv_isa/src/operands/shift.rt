@@ -1,3 +1,5 @@
+//! The amount of a shift by an immediate: 5 bits.
+
 ghost use Rattle.std.specs.Prelude.{◌≡◌, ◌<◌, ◌↔◌, IsSome, IfSome};
 
 use std::marker::Model;

@@ -1,3 +1,5 @@
+//! The immediate of the I and S formats: 12 bits, signed.
+
 ghost use Rattle.std.specs.Prelude.{◌≡◌, ◌↔◌, IsSome, IfSome};
 ghost use Rattle.std.specs.Int.{w32, cast_unsigned};
 ghost use Rattle.rv_isa.specs.Operands.{IsImmediate};

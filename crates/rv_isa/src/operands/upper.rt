@@ -1,3 +1,5 @@
+//! The immediate of the U format: the upper 20 bits of a word.
+
 ghost use Rattle.std.specs.Prelude.{◌≡◌, ◌^◌, ◌<◌, ◌↔◌, IsSome, IfSome};
 
 use std::marker::Model;

@@ -6,7 +6,7 @@ ghost use Rattle.asm_lines.specs.Faults.{fault_number};
 use std::alloc::{AllocError, AllocFailed};
 use thiserror::Error;
 
-/// What is wrong with a line, in the order in which it is looked for on a line.
+/// What is wrong with a line or with the whole program, in the order of the tests.
 #[derive(Clone, Copy, Debug, PartialEq, Eq, Error)]
 pub enum FaultKind {
     /// No line of this form.

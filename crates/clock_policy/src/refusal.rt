@@ -45,7 +45,7 @@ pub enum NewRefusal {
 }
 
 impl NewRefusal {
-    /// The number under which the refusal is printed. Its numbers are those of `Refusal`, with one of its own.
+    /// The number under which the refusal is printed: 5 or 6.
     pub fn number(self) -> u32
         ensures { result ≡ new_refusal_number self }
     {

@@ -59,7 +59,7 @@ pub fn collect<L: Ledger, S: SwapSlot, C: Clock>(
     look_at_page(pager, process, vpn, slots)
 }
 
-/// The look itself, page by page.
+/// The look itself, at one page.
 fn look_at_page<L: Ledger, S: SwapSlot, C: Clock>(
     pager: &mut PagerSide<L, C>,
     process: &mut Space<L, S>,

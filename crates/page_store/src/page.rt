@@ -225,7 +225,7 @@ impl<L: Ledger, S: SwapSlot> StoredPage<L, S> {
         done
     }
 
-    /// Ends to leave, with the dirty bit that its entry had when it began to.
+    /// Stops leaving, with the dirty bit that its entry had when it began to.
     pub fn bring_back(&mut self) -> Result<bool, NotLeaving>
         ensures ok { IfOk result (λ dirty. brought_back self.old.place ≡
             Some (self.new.place, dirty)) }
@@ -396,7 +396,7 @@ impl<L: Ledger, S: SwapSlot> StoredPage<L, S> {
 }
 
 impl<L: Ledger, S: SwapSlot> State<L, S> {
-    /// A page that begins so is brought into a frame.
+    /// A page in this state is brought into a frame.
     fn filled(
         self,
         origin: &Origin,
@@ -452,7 +452,7 @@ impl<L: Ledger, S: SwapSlot> State<L, S> {
         }
     }
 
-    /// It ends to leave.
+    /// It stops leaving.
     fn brought_back(self) -> (Self, Result<bool, NotLeaving>)
         ensures ok { IfOk result.1 (λ dirty. brought_back (place_in_state self) ≡
             Some (place_in_state result.0, dirty)) }

@@ -20,8 +20,8 @@ use sv32_table::PageTables;
 use swap_slots::SwapSlot;
 
 impl<L: Ledger, S: SwapSlot> PagedMemory<L, S> {
-    /// Takes the frame and the slot of the first page, by number, that has either and is not being saved, once no hart has
-    /// a translation any more. The page is unmapped, and given up for good. No page before `from` has anything; with what
+    /// Takes the frame and the slot of the first page, by number, that has either, is not being saved and has no copy out,
+    /// once no hart has a translation any more. The page is unmapped, and given up for good. No page before `from` has anything; with what
     /// the page had comes the number from which on others may have something still. `None` where there is no such page.
     #[tactic(auto, using(crate::proofs::GivingBackLaws::nothing_as_far))]
     pub fn take_from(&mut self, from: u32) -> Option<((Option<Frame<L>>, Option<S>), u32)>
@@ -43,7 +43,7 @@ impl<L: Ledger, S: SwapSlot> PagedMemory<L, S> {
     }
 }
 
-/// The first page, by number, that has a frame or a slot and is not being saved. None before `from` has.
+/// The first page, by number, that has a frame or a slot, is not being saved and has no copy out. None before `from` has.
 fn first_with_something<L: Ledger, S: SwapSlot>(
     pages: &PageMap<StoredPage<L, S>>,
     from: u32,

@@ -122,7 +122,7 @@ fn frame_of<L: Ledger>(rt: &impl Abort, alloc: Global, blank: Blank) -> Frame<L>
     pool.take().expect(rt, "a frame")
 }
 
-/// It can't be saved, stays, and takes no other frame.
+/// It can't be saved, and stays.
 fn stays<L: Ledger, S: SwapSlot>(rt: &impl Abort, page: &mut Page<L, S>, slot: S) {
     let (_, job) = collected(page, false, &mut Some(slot));
     let job = job.expect(rt, "a job");

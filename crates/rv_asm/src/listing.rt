@@ -60,7 +60,7 @@ impl Listing {
         self.image
     }
 
-    /// The words of the text, from its begin on.
+    /// The words of the text, from its beginning.
     pub fn words(&self) -> &[u32]
         ensures { result.now ≡ self.now.words }
     {

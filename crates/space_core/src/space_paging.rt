@@ -94,7 +94,7 @@ impl<L: Ledger, S: SwapSlot> Space<L, S> {
         self.memory.peek(address, bytes)
     }
 
-    /// Whether a page is being saved.
+    /// Whether a page is being saved, or a copy of one is out.
     pub fn is_saving(&self) -> bool
         ensures some { OnTrue result (SavesSome self.now.memory) }
         ensures none { OnFalse result (SavesNone self.now.memory) }
@@ -102,8 +102,8 @@ impl<L: Ledger, S: SwapSlot> Space<L, S> {
         self.memory.is_saving()
     }
 
-    /// Once the process has ended, takes the frame and the slot of the first page, by number, that has either and is not
-    /// being saved. The page is unmapped, and given up for good. `None` where there is no such page, and before the end.
+    /// Once the process has ended, takes the frame and the slot of the first page, by number, that has either, is not being
+    /// saved and has no copy out. The page is unmapped, and given up for good. `None` where there is no such page, and before the end.
     pub fn take_one(&mut self) -> Option<(Option<Frame<L>>, Option<S>)>
         ensures given { IfSome result (λ given. GivesIn given self.old.memory self.new.memory) }
         ensures tabled { SameTablesIn self.old.memory self.new.memory }

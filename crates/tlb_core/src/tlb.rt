@@ -143,7 +143,7 @@ impl Tlb {
         }
     }
 
-    /// Puts an entry in: in place of its page's where there is one, else after the others. The oldest of 16 goes for it.
+    /// Puts an entry in: in place of its page's where there is one, else after the others; then the oldest of 16 goes.
     #[tactic(auto, using(crate::proofs::Places::filled_in_place, crate::proofs::Places::filled_behind, crate::specs::CacheLaws::find_nowhere))]
     pub fn fill(&mut self, entry: Translation)
         ensures { self.new ≡ filled entry self.old }

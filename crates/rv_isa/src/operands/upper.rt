@@ -32,7 +32,7 @@ impl UpperImmediate {
         UpperImmediate { value }
     }
 
-    /// The immediate of a number below 2^20.
+    /// The immediate of a number, if that is below 2^20.
     pub fn new(value: u32) -> Option<Self>
         ensures valid { IsSome result ↔ (value < 2 ^ 20) }
         ensures value { IfSome result (λ u. u ≡ value) }

@@ -196,15 +196,15 @@ class Guest:
         if 0 < count <= call[1]:
             self.told(self.memory(call[0], count))
 
-    def piece(self, limit):
-        """Steps by turns, up to a point, ours or the user's, or so many."""
-        words = self.ask(f"run {limit}").split()
+    def piece(self, limit, hart=None):
+        """Steps by turns, or of one hart alone, up to a point, ours or the user's, or so many."""
+        words = self.ask(f"run {limit}" if hart is None else f"go-hart {hart} {limit}").split()
         told = dict(zip(words[-6::2], map(int, words[-5::2])))
         why, self.turn = words[0], told["turn"]
         self.steps += told["after"]
         self.has_ended = self.has_ended or why == "ended"
         address = self.addresses[int(words[1])] if why in ("break", "watch") else None
-        return Stop(why, told["last"] if why in ("watch", "ended") else self.turn, told["after"], address)
+        return Stop(why, told["last"] if why in ("watch", "ended") or hart is not None else self.turn, told["after"], address)
 
     def pass_here(self):
         """One step by turns. The hart whose turn it is passes the points at which it stands; what it writes is told."""
@@ -264,8 +264,31 @@ class Guest:
         changed = next((it[1] for it, now in self.watched().items() if now != before[it]), None)
         return Stop("limit", hart, 1) if changed is None else Stop("watch", hart, 1, changed)
 
+    def go_alone(self, hart, limit, interrupted):
+        """Steps of one hart while the others stay: the same reasons to stop, and that it is live no more."""
+        done = 0
+        while done != limit:
+            if interrupted():
+                return Stop("interrupt", hart, done)
+            stop = self.piece(PIECE if limit is None else min(PIECE, limit - done), hart)
+            done += stop.steps
+            if self.is_ours(stop) and done != limit:
+                stop = self.step(hart)    # past the point, at which its call is told
+                done += stop.steps
+                if stop.why == "limit" and not self.is_live(hart):
+                    stop.why = "gone"
+            if stop.why == "gone":
+                return Stop("limit", self.harts()[0], done)
+            if stop.why != "limit" and not self.is_ours(stop):
+                stop.steps = done
+                return stop
+        return Stop("limit", hart, done)
+
     def go_only(self, harts, limit=None, interrupted=never):
-        """Steps of some harts by turns, one by one, while the others stay: the same reasons to stop, and that none of them is live."""
+        """Steps of some harts by turns while the others stay: the same reasons to stop, and that none of them is live. Those of several are
+        taken one by one."""
+        if len(harts) == 1:
+            return self.go_alone(harts[0], limit, interrupted)
         done = 0
         while harts:
             for hart in harts:

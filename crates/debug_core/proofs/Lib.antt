@@ -1,3 +1,4 @@
+pub mod Alone
 pub mod Passing
 pub mod Points
 pub mod Room

@@ -13,7 +13,7 @@ use Rattle.debug_core.specs.Limits.{Limit}
 use Rattle.debug_core.specs.Stops.{Moment, last_hart, moment_after, next_moment, reason, Advances, IsFullAt, Passes, StopsFor}
 use Rattle.flat_machine.specs.Process.{Process}
 use Rattle.debug_core.specs.declared.point.Why.{Why}
-use Rattle.debug_core.specs.declared.point.Why.TheVariants.{Ended, Watch as Watched, Break as Broke, Limit as Limited, Absent}
+use Rattle.debug_core.specs.declared.point.Why.TheVariants.{Ended, Watch as Watched, Gone, Break as Broke, Limit as Limited, Absent}
 use Rattle.debug_core.specs.declared.point.Point.{Point}
 use Rattle.debug_core.specs.declared.point.Point.TheVariants.{Break, Watch}
 
@@ -61,6 +61,7 @@ module _ {T : Type 0} (shown : T → Process) (limits : T → Limit → Type 0) 
         | inr ran_out ↦ inr (ran_out.0, (ran_out.1.0, same.0 ran_out.1.1))
       ]
   stops_as full other same (Watched number) points limit count now process stops = stops
+  stops_as full other same Gone points limit count now process stops = stops
   stops_as full other same (Broke number) points limit count now process stops = stops
   stops_as full other same Limited points limit count now process stops = stops
   stops_as full other same Absent points limit count now process stops = (

@@ -5,15 +5,15 @@ use Rattle.std.specs.Option.{option_or}
 use Rattle.std.proofs.lemmas.Bool.Decides.{leb_tells}
 use Rattle.std.specs.List.{position_from}
 use Rattle.rv_exec.specs.Registers.{Registers}
-use Rattle.flat_machine.specs.Process.{Process, hart_registers}
+use Rattle.flat_machine.specs.Process.{Process, hart_registers, is_live}
 use Rattle.debug_core.specs.Points.{point_at, is_break_at, is_hit, ArePoints, IsPoint}
 use Rattle.debug_core.specs.Progresses.{ended_full}
 use Rattle.debug_core.specs.Limits.{Limit}
 use Rattle.debug_core.specs.Seen.{CannotSee, IsUnread}
-use Rattle.debug_core.specs.Stops.{break_at, moment_after, reason, watch_hit, GoesOnBefore, IsFullAt, Moment, Passes, Stops, StopsFor, Wants}
+use Rattle.debug_core.specs.Stops.{break_at, moment_after, reason, reason_before, watch_hit, GoesOnBefore, IsFullAt, Moment, Passes, Stops, StopsFor, WantsAfter}
 use Rattle.debug_core.specs.declared.point.Point.{Point}
 use Rattle.debug_core.specs.declared.point.Why.{Why}
-use Rattle.debug_core.specs.declared.point.Why.TheVariants.{Ended, Watch, Break, Limit as Limited, Absent}
+use Rattle.debug_core.specs.declared.point.Why.TheVariants.{Ended, Watch, Gone, Break, Limit as Limited, Absent}
 use Rattle.debug_core.specs.declared.target.TargetFault.{TargetFault}
 use Rattle.page_memory.specs.Memory.{Memory}
 
@@ -70,10 +70,10 @@ module _ (used : ℕ) (points : List (Option Point)) (none : (number : ℕ) → 
   reason_trimmed : (limit count : ℕ) (now : Moment) → reason (take used points) limit count now ≡ reason points limit count now
   reason_trimmed limit count now =
       ap (λ hit. if is_some now.process.ending then Some Ended else option_or (option_map Watch hit)
-      (option_or (option_map Break (break_at (take used points) (hart_registers now.turn now.process))) (if count == limit then Some Limited else None)))
+      (if is_live now.turn now.process then reason_before (take used points) limit count now else Some Gone))
       (position_trimmed (is_hit now.was now.process.memory) refl used 0 points none)
       ∙ ap (λ met. if is_some now.process.ending then Some Ended else option_or (option_map Watch (watch_hit points now))
-      (option_or (option_map Break met) (if count == limit then Some Limited else None)))
+      (if is_live now.turn now.process then option_or (option_map Break met) (if count == limit then Some Limited else None) else Some Gone))
       (break_trimmed (hart_registers now.turn now.process))
 
   passes_trimmed : (limits : Limit → Type 0) (limit count : ℕ) (first now : Moment) → Passes limits (take used points) limit count first now → Passes limits points limit count first now
@@ -108,6 +108,7 @@ module _ (used : ℕ) (points : List (Option Point)) (none : (number : ℕ) → 
           | inr ran_out ↦ inr (ran_out.0, (sym (reason_trimmed limit count now) ∙ ran_out.1.0, ran_out.1.1))
         ]
     stops_for full (Watch number) limit count now process stops = (stops.0, sym (reason_trimmed limit count now) ∙ stops.1)
+    stops_for full Gone limit count now process stops = (stops.0, sym (reason_trimmed limit count now) ∙ stops.1)
     stops_for full (Break number) limit count now process stops = (stops.0, sym (reason_trimmed limit count now) ∙ stops.1)
     stops_for full Limited limit count now process stops = (stops.0, sym (reason_trimmed limit count now) ∙ stops.1)
     stops_for full Absent limit count now process stops = (
@@ -127,26 +128,26 @@ module _ (used : ℕ) (points : List (Option Point)) (none : (number : ℕ) → 
       turn_is = stops.turn_is;
     }
 
-    wants_trimmed : (target : T) (limit : ℕ) (first : Moment) (turn : ℕ) (process : Process) → Wants limits target (take used points) limit first turn process → Wants limits target points limit first turn process
-    wants_trimmed target limit first turn process wants = record {
-      count = wants.count;
+    wants_trimmed : (target : T) (limit count : ℕ) (first : Moment) (turn : ℕ) (process : Process) → WantsAfter limits target (take used points) limit count first turn process
+        → WantsAfter limits target points limit count first turn process
+    wants_trimmed target limit count first turn process wants = record {
       now = wants.now;
-      passes = passes_trimmed (limits target) limit wants.count first wants.now wants.passes;
-      none = sym (reason_trimmed limit wants.count wants.now) ∙ wants.none;
+      passes = passes_trimmed (limits target) limit count first wants.now wants.passes;
+      none = sym (reason_trimmed limit count wants.now) ∙ wants.none;
       recordable = wants.recordable;
       process_is = wants.process_is;
       turn_is = wants.turn_is;
     }
 
-    pub stops_answered : (target : T) (limit : ℕ) (first : Moment) (turn : ℕ) (process : Process) {E : Type 0} (answer : Result (Why × ℕ × ℕ) E)
-        → IfOk answer (λ stop. Stops shown limits target (take used points) limit stop.0 stop.1 first turn process) → IfOk answer (λ stop. Stops shown limits target points limit stop.0 stop.1 first turn process)
-    stops_answered target limit first turn process (Ok stop) stops = stops_trimmed target limit stop.0 stop.1 first turn process stops
-    stops_answered target limit first turn process (Err error) stops = stops
+    pub stops_answered : (target : T) (limit count : ℕ) (first : Moment) (turn : ℕ) (process : Process) {E : Type 0} (answer : Result Why E)
+        → IfOk answer (λ why. Stops shown limits target (take used points) limit why count first turn process) → IfOk answer (λ why. Stops shown limits target points limit why count first turn process)
+    stops_answered target limit count first turn process (Ok why) stops = stops_trimmed target limit why count first turn process stops
+    stops_answered target limit count first turn process (Err error) stops = stops
 
-    pub wants_answered : (target : T) (limit : ℕ) (first : Moment) (turn : ℕ) (process : Process) {E : Type 0} (answer : Result (Why × ℕ × ℕ) E)
-        → OnErr answer (Wants limits target (take used points) limit first turn process) → OnErr answer (Wants limits target points limit first turn process)
-    wants_answered target limit first turn process (Ok stop) wants = wants
-    wants_answered target limit first turn process (Err error) wants = wants_trimmed target limit first turn process wants
+    pub wants_answered : (target : T) (limit count : ℕ) (first : Moment) (turn : ℕ) (process : Process) {E : Type 0} (answer : Result Why E)
+        → OnErr answer (WantsAfter limits target (take used points) limit count first turn process) → OnErr answer (WantsAfter limits target points limit count first turn process)
+    wants_answered target limit count first turn process (Ok why) wants = wants
+    wants_answered target limit count first turn process (Err error) wants = wants_trimmed target limit count first turn process wants
 
 -- ---- counting the points in use
 

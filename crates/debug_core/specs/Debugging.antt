@@ -1,12 +1,12 @@
 -- A debugger: what it looks at, its points, and whose turn it is; and what its calls do.
-use Rattle.std.specs.Prelude.{◌≡◌, ◌⊎◌, ℕ, true, false, IsSome, List, [], slice_set, Option, Some, None, is_none}
+use Rattle.std.specs.Prelude.{◌≡◌, ◌⊎◌, ℕ, zero, suc, Bool, true, false, IsSome, List, [], slice_set, Option, Some, None, is_none}
 use Rattle.std.specs.List.{position_from}
 use Rattle.std.specs.FinMap as map
 use Rattle.flat_machine.specs.ByTurns.{turn_after}
 use Rattle.flat_machine.specs.Process.{Process, is_live, may_step, flat_step}
 use Rattle.debug_core.specs.Limits.{CanRead, CannotHave, CannotRead, CannotRecord, Limit}
 use Rattle.debug_core.specs.Progresses.{ended_full}
-use Rattle.debug_core.specs.Stops.{Moment}
+use Rattle.debug_core.specs.Stops.{Moment, WantsAfter}
 use Rattle.page_memory.specs.Memory.{Memory, unreserved}
 use Rattle.debug_core.specs.Points.{all_there, bytes_from, IsRange}
 use Rattle.debug_core.specs.declared.target.TargetFault.TheVariants as fault
@@ -32,8 +32,21 @@ pub record AddsPoint (point : Point) (number : ℕ) (old new : List (Option Poin
   pub added : new ≡ slice_set old number (Some point)
 
 -- a process before the first step, with the turn of a hart: no memory was before
+abbrev pub opening_moment : Bool → Process → ℕ → Moment
+opening_moment alone process turn = record { process = process; turn = turn; was = unreserved map.empty; alone = alone }
+
+-- the same where the harts take turns
 abbrev pub first_moment : Process → ℕ → Moment
-first_moment process turn = record { process = process; turn = turn; was = unreserved map.empty }
+first_moment process turn = opening_moment false process turn
+
+-- and where this hart runs alone
+abbrev pub lone_moment : Process → ℕ → Moment
+lone_moment process hart = opening_moment true process hart
+
+-- whose turn it is after so many steps of a hart that ran alone: as after each of them
+abbrev pub turn_left : ℕ → ℕ → ℕ → Process → ℕ
+turn_left zero hart turn process = turn
+turn_left (suc count) hart turn process = turn_after hart process
 
 -- One step of a hart, where the target that it is taken on has these limits: it is the flat step, and the turn goes on; or none was
 -- taken, though the hart may step, since a page that it needs can't be had. In both cases it could be recorded.
@@ -66,3 +79,17 @@ RefusesLook limits NotMapped address count memory = IsRange 4096 address count �
 RefusesLook limits Purged address count memory = IsRange 4096 address count × ((all_there (bytes_from memory address count) ≡ true) × limits (CannotRead address count fault.Purged))
 RefusesLook limits Device address count memory = IsRange 4096 address count × ((all_there (bytes_from memory address count) ≡ true) × (limits (CannotRead address count fault.Device) × (¬ limits (CannotRead address count fault.Purged))))
 RefusesLook limits NoMemory address count memory = IsRange 4096 address count × ((all_there (bytes_from memory address count) ≡ true) × CanRead limits address count)
+
+-- Why a run of one hart is refused: the hart is not live, and nothing has changed; or memory is wanting for a step of it, and the steps
+-- before it stand.
+abbrev pub RefusesGo : {T : Type 0} → (T → Limit → Type 0) → DebugRefusal → T → List (Option Point) → ℕ → ℕ → Process → ℕ → Process → ℕ → Type 0
+RefusesGo limits Full target points limit hart old turn new next = ⊥
+RefusesGo limits BadRange target points limit hart old turn new next = ⊥
+RefusesGo limits NoPoint target points limit hart old turn new next = ⊥
+RefusesGo limits NoHart target points limit hart old turn new next = (is_live hart old ≡ false) × (new ≡ old) × (next ≡ turn)
+RefusesGo limits Ended target points limit hart old turn new next = ⊥
+RefusesGo limits NotMapped target points limit hart old turn new next = ⊥
+RefusesGo limits Purged target points limit hart old turn new next = ⊥
+RefusesGo limits Device target points limit hart old turn new next = ⊥
+RefusesGo limits NoMemory target points limit hart old turn new next = (is_live hart old ≡ true)
+    × (count : ℕ) × WantsAfter limits target points limit count (lone_moment old hart) hart new × (next ≡ turn_left count hart turn new)

@@ -1,29 +1,36 @@
 -- Where a debugger stops: after the least number of steps by turns at which there is a reason.
-use Rattle.std.specs.Prelude.{◌≡◌, ℕ, zero, suc, ◌<◌, ◌≤◌, ◌==◌, List, [], ◌∷◌, ◌++◌, ◌⊎◌, Option, Some, None, IfSome, is_some, option_map, option_and_then, if◌then◌else◌}
+use Rattle.std.specs.Prelude.{◌≡◌, ℕ, Bool, true, false, zero, suc, ◌<◌, ◌≤◌, ◌==◌, List, [], ◌∷◌, ◌++◌, ◌⊎◌, Option, Some, None, IfSome, is_some, option_map, option_and_then, if◌then◌else◌}
 use Rattle.std.specs.Option.{option_or}
 use Rattle.std.specs.List.{position_from}
 use Rattle.page_memory.specs.Memory.{Memory}
 use Rattle.rv_exec.specs.Registers.{Registers}
 use Rattle.flat_machine.specs.ByTurns.{turn_after}
-use Rattle.flat_machine.specs.Process.{Process, hart_registers, flat_step}
+use Rattle.flat_machine.specs.Process.{Process, hart_registers, is_live, flat_step}
 use Rattle.debug_core.specs.Limits.{CannotHave, CannotRecord, Limit}
 use Rattle.debug_core.specs.Points.{is_hit, is_break_at}
 use Rattle.debug_core.specs.Progresses.{ended_full}
 use Rattle.debug_core.specs.Seen.{IsUnread}
 use Rattle.debug_core.specs.declared.point.Point.{Point}
 use Rattle.debug_core.specs.declared.point.Why.{Why}
-use Rattle.debug_core.specs.declared.point.Why.TheVariants.{Ended, Watch, Break, Absent}
+use Rattle.debug_core.specs.declared.point.Why.TheVariants.{Ended, Watch, Gone, Break, Absent}
 use Rattle.debug_core.specs.declared.point.Why.TheVariants as stop
 
--- a process, whose turn it is, and the memory before the last step, which is none before the first
+-- a process, whose turn it is, the memory before the last step, which is none before the first, and whether one hart runs alone
 pub record Moment : Type 0 where
   pub process : Process
   pub turn : ℕ
   pub was : Memory
+  pub alone : Bool
+
+-- whose turn it is after a step of a hart: its own again, where it runs alone
+abbrev pub turn_next : Bool → ℕ → Process → ℕ
+turn_next false turn process = turn_after turn process
+turn_next true turn process = turn
 
 -- the moment after the step of the hart whose turn it is
 abbrev pub next_moment : Moment → Option Moment
-next_moment now = option_map (λ next. record { process = next; turn = turn_after now.turn next; was = now.process.memory }) (flat_step now.turn now.process)
+next_moment now =
+    option_map (λ next. record { process = next; turn = turn_next now.alone now.turn next; was = now.process.memory; alone = now.alone }) (flat_step now.turn now.process)
 
 -- the moment after so many steps
 unfoldable pub moment_after : ℕ → Moment → Option Moment
@@ -44,14 +51,19 @@ abbrev pub break_at : List (Option Point) → Option Registers → Option ℕ
 break_at points None = None
 break_at points (Some registers) = position_from (is_break_at registers.pc) 0 points
 
--- why a debugger stops at a moment after so many steps, if it does: the process has ended, or a watch is hit, or a break is met, or
--- no more steps are allowed; the first of these that holds
+-- why a debugger stops before the next step of a hart, if it does: a break is met, or no more steps are allowed
+abbrev pub reason_before : List (Option Point) → ℕ → ℕ → Moment → Option Why
+reason_before points limit count now =
+    option_or (option_map Break (break_at points (hart_registers now.turn now.process)))
+    (if count == limit then Some stop.Limit else None)
+
+-- why a debugger stops at a moment after so many steps, if it does: the process has ended, or a watch is hit, or the hart that runs alone
+-- has ended, or there is a reason before its next step; the first of these that holds
 abbrev pub reason : List (Option Point) → ℕ → ℕ → Moment → Option Why
 reason points limit count now =
     if is_some now.process.ending then Some Ended
     else option_or (option_map Watch (watch_hit points now))
-    (option_or (option_map Break (break_at points (hart_registers now.turn now.process)))
-    (if count == limit then Some stop.Limit else None))
+    (if is_live now.turn now.process then reason_before points limit count now else Some Gone)
 
 -- the harts of so many steps from a first moment on, in order
 abbrev pub turn_in : Option Moment → List ℕ
@@ -89,6 +101,7 @@ module _ {T : Type 0} (shown : T → Process) (limits : T → Limit → Type 0) 
   StopsFor full Ended points limit count now process =
       ((process ≡ now.process) × (reason points limit count now ≡ Some Ended)) ⊎ ((process ≡ ended_full now.process) × ((reason points limit count now ≡ None) × full))
   StopsFor full (Watch number) points limit count now process = (process ≡ now.process) × (reason points limit count now ≡ Some (Watch number))
+  StopsFor full Gone points limit count now process = (process ≡ now.process) × (reason points limit count now ≡ Some Gone)
   StopsFor full (Break number) points limit count now process = (process ≡ now.process) × (reason points limit count now ≡ Some (Break number))
   StopsFor full stop.Limit points limit count now process = (process ≡ now.process) × (reason points limit count now ≡ Some stop.Limit)
   StopsFor full Absent points limit count now process = (process ≡ now.process) ×
@@ -105,16 +118,18 @@ module _ {T : Type 0} (shown : T → Process) (limits : T → Limit → Type 0) 
   -- What one step of such a run does: it stops for a reason, or nothing speaks for stopping and the step is taken.
   abbrev pub Advances : Type 0 → Option Why → List (Option Point) → ℕ → ℕ → Moment → ℕ → Process → Type 0
   Advances full None points limit count now turn process =
-      (reason points limit count now ≡ None) × ((next_moment now ≡ Some (record { process = process; turn = turn; was = now.process.memory })) × (¬ full))
+      (reason points limit count now ≡ None) × ((next_moment now ≡ Some (record { process = process; turn = turn; was = now.process.memory; alone = now.alone })) × (¬ full))
   Advances full (Some why) points limit count now turn process = StopsFor full why points limit count now process × (turn ≡ now.turn)
 
 -- so many steps were done, none of them and nothing after the last was a reason to stop, and for the next one, which could be recorded,
 -- memory is wanting
-pub record Wants {T : Type 0} (limits : T → Limit → Type 0) (target : T) (points : List (Option Point)) (limit : ℕ) (first : Moment) (turn : ℕ) (process : Process) : Type 0 where
-  pub count : ℕ
+pub record WantsAfter {T : Type 0} (limits : T → Limit → Type 0) (target : T) (points : List (Option Point)) (limit count : ℕ) (first : Moment) (turn : ℕ) (process : Process) : Type 0 where
   pub now : Moment
   pub passes : Passes (limits target) points limit count first now
   pub none : reason points limit count now ≡ None
   pub recordable : ¬ IsFullAt (limits target) count first now
   pub process_is : process ≡ now.process
   pub turn_is : turn ≡ now.turn
+
+abbrev pub Wants : {T : Type 0} → (T → Limit → Type 0) → T → List (Option Point) → ℕ → Moment → ℕ → Process → Type 0
+Wants limits target points limit first turn process = (count : ℕ) × WantsAfter limits target points limit count first turn process

@@ -3,15 +3,16 @@
 ghost use Rattle.std.specs.Prelude.{◌≡◌, ◌⊎◌, ℕ, ◌<◌, ◌≤◌, length, true, false, Some, None, IfSome, IfOk, IfErr, OnOk, OnErr, slice_set, replicate};
 ghost use Rattle.flat_machine.specs.ByTurns.{first_turn};
 ghost use Rattle.flat_machine.specs.Process.{hart_registers, is_live};
-ghost use Rattle.debug_core.specs.Debugging.{first_moment, lowest_free, AddsPoint, RefusesStep, StepsOnce};
-ghost use Rattle.debug_core.specs.Points.{point_at, IsRange};
-ghost use Rattle.debug_core.specs.Stops.{last_hart, Stops, Wants};
+ghost use Rattle.debug_core.specs.Debugging.{first_moment, lone_moment, lowest_free, opening_moment, turn_left};
+ghost use Rattle.debug_core.specs.Debugging.{AddsPoint, RefusesGo, RefusesStep, StepsOnce};
+ghost use Rattle.debug_core.specs.Points.{point_at, ArePoints, IsRange};
+ghost use Rattle.debug_core.specs.Stops.{last_hart, Stops, Wants, WantsAfter};
 ghost use Rattle.debug_core.specs.declared.point.Point.TheVariants as point;
 ghost use Rattle.debug_core.specs.declared.refusal.DebugRefusal.TheVariants as refusal;
 
 use crate::point::{DebugStep, MOST_POINTS, MOST_WATCHED, Point, Why};
 use crate::refusal::DebugRefusal;
-use crate::running::run;
+use crate::running::{Ran, run};
 use crate::target::{Target, TargetStep};
 use flat_machine::End;
 use rv_exec::Regs;
@@ -147,7 +148,6 @@ impl<T: Target> Debugger<T> {
     /// # Errors
     ///
     /// Want of memory for a step; the steps before it remain.
-    #[tactic(auto, using(crate::proofs::Trimmed::points_trimmed))]
     pub fn go(&mut self, limit: u64) -> Result<(Why, u64, u32), AllocError>
         ensures stops { IfOk result (λ stop. Stops T.shown T.limits self.old.target self.old.points
             limit stop.0 stop.1 (first_moment (T.shown self.old.target) self.old.turn)
@@ -160,8 +160,42 @@ impl<T: Target> Debugger<T> {
         ensures points { self.new.points ≡ self.old.points }
     {
         let points = self.points;
-        let used = used(&points);
-        run(&mut self.target, &mut self.turn, &points[..used], limit)
+        let ran = run_with(&mut self.target, false, &mut self.turn, &points, limit);
+        match ran.why {
+            Ok(why) => Ok((why, ran.steps, ran.last)),
+            Err(AllocError) => Err(AllocError),
+        }
+    }
+
+    /// Steps only one hart, until there is a reason to stop, as [`Debugger::go`] has them, or that hart has ended. Returns the reason
+    /// and how many steps were done. The turn goes on as after each of them.
+    ///
+    /// # Errors
+    ///
+    /// The hart is not live, or memory is wanting for a step; the steps before it remain.
+    pub fn go_hart(&mut self, hart: u32, limit: u64) -> Result<(Why, u64), DebugRefusal>
+        ensures live { IfOk result (λ _. is_live hart (T.shown self.old.target) ≡ true) }
+        ensures stops { IfOk result (λ stop. Stops T.shown T.limits self.old.target self.old.points
+            limit stop.0 stop.1 (lone_moment (T.shown self.old.target) hart) hart
+            (T.shown self.new.target)) }
+        ensures turn { IfOk result (λ stop. self.new.turn ≡ turn_left stop.1 hart self.old.turn
+            (T.shown self.new.target)) }
+        ensures refused { IfErr result (λ why. RefusesGo T.limits why self.old.target
+            self.old.points limit hart (T.shown self.old.target) self.old.turn
+            (T.shown self.new.target) self.new.turn) }
+        ensures points { self.new.points ≡ self.old.points }
+    {
+        if !self.target.is_live(hart) {
+            return Err(DebugRefusal::NoHart);
+        }
+        let points = self.points;
+        let mut at = hart;
+        let ran = run_with(&mut self.target, true, &mut at, &points, limit);
+        self.turn = turn_left(&self.target, ran.steps, hart, self.turn);
+        match ran.why {
+            Ok(why) => Ok((why, ran.steps)),
+            Err(AllocError) => Err(DebugRefusal::NoMemory),
+        }
     }
 
     /// Whose turn it is.
@@ -212,6 +246,43 @@ fn first_turn<T: Target>(target: &T) -> u32
         return 0;
     }
     target.turn_after(0)
+}
+
+/// Whose turn it is after so many steps of one hart while the others wait.
+fn turn_left<T: Target>(target: &T, steps: u64, hart: u32, turn: u32) -> u32
+    requires { steps ≡ 0 → is_live turn (T.shown target.now) ≡ true }
+    ensures left { result ≡ turn_left steps hart turn (T.shown target.now) }
+    ensures live { is_live result (T.shown target.now) ≡ true }
+{
+    match steps {
+        0 => turn,
+        _ => target.turn_after(hart),
+    }
+}
+
+/// Steps the harts by turns, or only one, as [`run`] does, with all points.
+#[tactic(auto, using(crate::proofs::Trimmed::points_trimmed))]
+fn run_with<T: Target>(
+    target: &mut T,
+    alone: bool,
+    turn: &mut u32,
+    points: &[Option<Point>; MOST_POINTS],
+    limit: u64,
+) -> Ran
+    requires live { alone ≡ false → is_live turn.old (T.shown target.old) ≡ true }
+    requires points { ArePoints points.now }
+    ensures stops { IfOk result.why (λ why. Stops T.shown T.limits target.old points.now limit why
+        result.steps (opening_moment alone (T.shown target.old) turn.old) turn.new
+        (T.shown target.new)) }
+    ensures last { last_hart result.steps (opening_moment alone (T.shown target.old)
+        turn.old) ≡ Some result.last }
+    ensures wants { OnErr result.why (WantsAfter T.limits target.old points.now limit result.steps
+        (opening_moment alone (T.shown target.old) turn.old) turn.new (T.shown target.new)) }
+    ensures live { alone ≡ false → is_live turn.new (T.shown target.new) ≡ true }
+    ensures alone { alone ≡ true → turn.new ≡ turn.old }
+{
+    let used = used(points);
+    run(target, alone, turn, &points[..used], limit)
 }
 
 /// How many numbers there are up to the highest that has a point.

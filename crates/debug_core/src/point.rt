@@ -20,6 +20,8 @@ pub enum Why {
     Ended,
     /// The last step changed a byte of the watch with this number.
     Watch(u32),
+    /// The hart that runs alone has ended.
+    Gone,
     /// The hart whose turn it is stands at the break with this number.
     Break(u32),
     /// As many steps were done as were allowed.

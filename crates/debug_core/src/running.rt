@@ -1,15 +1,16 @@
 //! Steps by turns, until there is a reason to stop.
 
-ghost use Rattle.std.specs.Prelude.{◌≡◌, ◌≢◌, ℕ, ◌<◌, ◌≤◌, [], true, None, Some, IfOk, OnErr, length};
+ghost use Rattle.std.specs.Prelude.{◌≡◌, ◌≢◌, ℕ, ◌<◌, ◌≤◌, [], true, false, None, Some, IfOk, OnErr, length};
 ghost use Rattle.std.specs.List.{position_from};
 ghost use Rattle.page_memory.specs.Memory.{Memory};
 ghost use Rattle.flat_machine.specs.ByTurns.{turn_after};
 ghost use Rattle.flat_machine.specs.Process.{Process, hart_registers, is_live, may_step};
-ghost use Rattle.debug_core.specs.Debugging.{first_moment};
+ghost use Rattle.debug_core.specs.Debugging.{opening_moment};
 ghost use Rattle.debug_core.specs.Limits.{CannotRecord, KeepsRoom, RecordsOne};
 ghost use Rattle.debug_core.specs.Points.{is_break_at, ArePoints};
 ghost use Rattle.debug_core.specs.Seen.{AreSeen, IsUnread};
-ghost use Rattle.debug_core.specs.Stops.{break_at, last_hart, reason, Advances, Stops, Wants};
+ghost use Rattle.debug_core.specs.Stops.{break_at, last_hart, reason, turn_next};
+ghost use Rattle.debug_core.specs.Stops.{Advances, Stops, WantsAfter};
 ghost use Rattle.debug_core.specs.declared.point.Why.TheVariants as why;
 
 use crate::looking::{NOTHING, Window, look};
@@ -53,12 +54,14 @@ fn is_break_at(pc: u32, point: Option<Point>) -> bool
 /// had is told as a fault.
 fn reason_now<T: Target>(
     target: &mut T,
+    alone: bool,
     turn: u32,
     points: &[Option<Point>],
     seen: &mut [Window],
     done: u64,
     limit: u64,
 ) -> Result<Option<Why>, TargetFault>
+    requires live { alone ≡ false → is_live turn (T.shown target.old) ≡ true }
     requires points { ArePoints points.now }
     requires room { length points.now ≤ length seen.old }
     requires few { length points.now ≤ 32 }
@@ -66,13 +69,14 @@ fn reason_now<T: Target>(
         why ≡ reason points.now limit done (record {
           process = T.shown target.old;
           turn = turn;
-          was
-              = was;
+          was = was;
+          alone = alone;
         })) }
     ensures seen { IfOk result (λ why. why ≡ None →
         AreSeen points.now seen.new (T.shown target.old).memory) }
     ensures goes_on { IfOk result (λ why. why ≡ None → ((T.shown target.old).ending ≡ None) ×
         (done ≢ limit)) }
+    ensures lives { IfOk result (λ why. why ≡ None → is_live turn (T.shown target.old) ≡ true) }
     ensures unread { OnErr result ((was : Memory) → AreSeen points.now seen.old was →
         IsUnread T.shown T.limits points.now was (T.shown target.old)) }
     ensures not_ended { OnErr result ((T.shown target.old).ending ≡ None) }
@@ -86,6 +90,9 @@ fn reason_now<T: Target>(
     if let Some(number) = look(target, points, seen)? {
         return Ok(Some(Why::Watch(number)));
     }
+    if alone && !target.is_live(turn) {
+        return Ok(Some(Why::Gone));
+    }
     if let Some(number) = break_at(target, turn, points) {
         return Ok(Some(Why::Break(number)));
     }
@@ -95,7 +102,7 @@ fn reason_now<T: Target>(
     Ok(None)
 }
 
-/// Stops for a reason, or takes the step of the hart whose turn it is.
+/// Stops for a reason, or takes the step of the hart whose turn it is, and which it stays where that hart runs alone.
 ///
 /// # Errors
 ///
@@ -103,20 +110,25 @@ fn reason_now<T: Target>(
 #[tactic(auto, using(flat_machine::specs::StepLaws::may_step_when_live))]
 fn advance<T: Target>(
     target: &mut T,
+    alone: bool,
     turn: &mut u32,
     points: &[Option<Point>],
     seen: &mut [Window],
     done: u64,
     limit: u64,
 ) -> Result<Option<Why>, AllocError>
-    requires live { is_live turn.old (T.shown target.old) ≡ true }
+    requires live { alone ≡ false → is_live turn.old (T.shown target.old) ≡ true }
     requires points { ArePoints points.now }
     requires room { length points.now ≤ length seen.old }
     requires few { length points.now ≤ 32 }
     ensures advances { IfOk result (λ why. (was : Memory) → AreSeen points.now seen.old was →
         Advances T.shown T.limits (T.limits target.old (CannotRecord [] turn.old)) why points.now
-        limit done (record { process = T.shown target.old; turn = turn.old; was = was }) turn.new
-        (T.shown target.new)) }
+        limit done (record {
+          process = T.shown target.old;
+          turn = turn.old;
+          was = was;
+          alone = alone;
+        }) turn.new (T.shown target.new)) }
     ensures seen { IfOk result (λ why. why ≡ None →
         AreSeen points.now seen.new (T.shown target.old).memory) }
     ensures goes_on { IfOk result (λ why. why ≡ None → done ≢ limit) }
@@ -124,24 +136,25 @@ fn advance<T: Target>(
         reason points.now limit done (record {
           process = T.shown target.old;
           turn = turn.old;
-          was =
-              was;
+          was = was;
+          alone = alone;
         }) ≡ None) }
     ensures err { OnErr result ((T.shown target.new ≡ T.shown target.old) ×
         ((turn.new ≡ turn.old) × (¬ T.limits target.old (CannotRecord [] turn.old)))) }
     ensures recorded { IfOk result (λ why. why ≡ None → RecordsOne turn.old (T.limits target.old)
         (T.limits target.new)) }
     ensures room { length seen.new ≡ length seen.old }
-    ensures live { is_live turn.new (T.shown target.new) ≡ true }
+    ensures live { alone ≡ false → is_live turn.new (T.shown target.new) ≡ true }
+    ensures alone { alone ≡ true → turn.new ≡ turn.old }
 {
-    match reason_now(target, *turn, points, seen, done, limit) {
+    match reason_now(target, alone, *turn, points, seen, done, limit) {
         Err(_) => return Ok(Some(Why::Absent)),
         Ok(Some(why)) => return Ok(Some(why)),
         Ok(None) => {}
     }
     match target.step(*turn) {
         Ok(TargetStep::Ran) => {
-            *turn = target.turn_after(*turn);
+            *turn = turn_next(target, alone, *turn);
             Ok(None)
         }
         Ok(TargetStep::Absent) => Ok(Some(Why::Absent)),
@@ -150,41 +163,70 @@ fn advance<T: Target>(
     }
 }
 
-/// Steps the harts by turns until there is a reason to stop. Tells the reason, how many steps were done, and the hart of the last
-/// one: of none the hart whose turn it is.
-///
-/// # Errors
-///
-/// Want of memory for a step; the steps before it stand.
+/// Whose turn it is after a step of a hart.
+fn turn_next<T: Target>(target: &T, alone: bool, turn: u32) -> u32
+    ensures next { result ≡ turn_next alone turn (T.shown target.now) }
+    ensures live { alone ≡ false → is_live result (T.shown target.now) ≡ true }
+{
+    if alone { turn } else { target.turn_after(turn) }
+}
+
+/// How a run came to its end.
+#[derive(Clone, Copy)]
+pub(crate) struct Ran {
+    /// Why it stopped, or that memory was wanting for the next step.
+    pub(crate) why: Result<Why, AllocError>,
+    /// How many steps were done.
+    pub(crate) steps: u64,
+    /// The hart of the last one: of none the hart whose turn it was.
+    pub(crate) last: u32,
+}
+
+/// Steps the harts by turns, or only one, until there is a reason to stop or memory is wanting for a step.
 pub(crate) fn run<T: Target>(
     target: &mut T,
+    alone: bool,
     turn: &mut u32,
     points: &[Option<Point>],
     limit: u64,
-) -> Result<(Why, u64, u32), AllocError>
-    requires live { is_live turn.old (T.shown target.old) ≡ true }
+) -> Ran
+    requires live { alone ≡ false → is_live turn.old (T.shown target.old) ≡ true }
     requires points { ArePoints points.now }
     requires few { length points.now ≤ 32 }
-    ensures stops { IfOk result (λ stop. Stops T.shown T.limits target.old points.now limit stop.0
-        stop.1 (first_moment (T.shown target.old) turn.old) turn.new (T.shown target.new)) }
-    ensures last { IfOk result (λ stop. last_hart stop.1 (first_moment (T.shown target.old)
-        turn.old) ≡ Some stop.2) }
-    ensures wants { OnErr result (Wants T.limits target.old points.now limit
-        (first_moment (T.shown target.old) turn.old) turn.new (T.shown target.new)) }
-    ensures live { is_live turn.new (T.shown target.new) ≡ true }
+    ensures stops { IfOk result.why (λ why. Stops T.shown T.limits target.old points.now limit why
+        result.steps (opening_moment alone (T.shown target.old) turn.old) turn.new
+        (T.shown target.new)) }
+    ensures last { last_hart result.steps (opening_moment alone (T.shown target.old)
+        turn.old) ≡ Some result.last }
+    ensures wants { OnErr result.why (WantsAfter T.limits target.old points.now limit result.steps
+        (opening_moment alone (T.shown target.old) turn.old) turn.new (T.shown target.new)) }
+    ensures alone { alone ≡ true → turn.new ≡ turn.old }
+    ensures live { alone ≡ false → is_live turn.new (T.shown target.new) ≡ true }
 {
     let mut seen = [NOTHING; MOST_POINTS];
-    let mut done: u64 = 0;
+    let mut steps: u64 = 0;
     let mut last = *turn;
     'steps: loop {
         let now = *turn;
-        match advance(target, turn, points, &mut seen, done, limit) {
+        match advance(target, alone, turn, points, &mut seen, steps, limit) {
             Ok(None) => {
-                done += 1;
+                steps += 1;
                 last = now;
             }
-            Ok(Some(why)) => return Ok((why, done, last)),
-            Err(AllocError) => return Err(AllocError),
+            Ok(Some(why)) => {
+                return Ran {
+                    why: Ok(why),
+                    steps,
+                    last,
+                };
+            }
+            Err(AllocError) => {
+                return Ran {
+                    why: Err(AllocError),
+                    steps,
+                    last,
+                };
+            }
         }
     }
 }

@@ -1,14 +1,14 @@
 -- What a debugger does for a line, and replies: for each line the debugger's call that it names, by what that call does.
-use Rattle.std.specs.Prelude.{◌≡◌, ◌⊎◌, ℕ, map, slice_set, Option, None, Some, IsSomeAnd}
+use Rattle.std.specs.Prelude.{◌≡◌, ◌⊎◌, ℕ, true, map, slice_set, Option, None, Some, IsSomeAnd}
 use Rattle.flat_machine.specs.Process.{Process, hart_registers, is_live}
-use Rattle.debug_core.specs.Debugging.{DebuggerValue, AddsPoint, RefusesLook, RefusesStep, StepsOnce, first_moment, lowest_free}
+use Rattle.debug_core.specs.Debugging.{DebuggerValue, AddsPoint, RefusesGo, RefusesLook, RefusesStep, StepsOnce, first_moment, lone_moment, lowest_free, turn_left}
 use Rattle.debug_core.specs.Limits.{Limit}
 use Rattle.debug_core.specs.Points.{bytes_from, point_at, IsRange}
 use Rattle.debug_core.specs.Stops.{Stops, Wants, last_hart}
 use Rattle.debug_core.specs.declared.point.Point.TheVariants as point
 use Rattle.debug_core.specs.declared.refusal.DebugRefusal.TheVariants as refusal
 use Rattle.debug_session.specs.declared.lines.DebugLine.{DebugLine}
-use Rattle.debug_session.specs.declared.lines.DebugLine.TheVariants.{Break, Watch, Remove, Step, Go, Regs, Mem, Run, End, Quit}
+use Rattle.debug_session.specs.declared.lines.DebugLine.TheVariants.{Break, Watch, Remove, Step, Go, Regs, Mem, Run, GoHart, End, Quit}
 use Rattle.debug_session.specs.declared.lines.DebugLine.TheVariants as line
 use Rattle.debug_session.specs.declared.reply.DebugReply.{DebugReply}
 use Rattle.debug_session.specs.declared.reply.DebugReply.TheVariants.{Point, Removed, Stepped, Stopped, Told, Ending, Live, Registers, Bytes, Refused}
@@ -66,6 +66,16 @@ module _ {T : Type 0} (shown : T → Process) (limits : T → Limit → Type 0) 
       × (new.points ≡ old.points)
   AnswersRun limit old other new = ⊥
 
+  -- flat steps of one hart alone, to the first reason to stop
+  abbrev pub AnswersGoHart : ℕ → ℕ → DebuggerValue T → DebugReply → DebuggerValue T → Type 0
+  AnswersGoHart hart limit old (Told why last turn steps) new =
+      (is_live hart (shown old.target) ≡ true)
+      × Stops shown limits old.target old.points limit why steps (lone_moment (shown old.target) hart) hart (shown new.target)
+      × (last ≡ hart) × (turn ≡ new.turn) × (new.turn ≡ turn_left steps hart old.turn (shown new.target)) × (new.points ≡ old.points)
+  AnswersGoHart hart limit old (Refused why) new =
+      RefusesGo limits why old.target old.points limit hart (shown old.target) old.turn (shown new.target) new.turn × (new.points ≡ old.points)
+  AnswersGoHart hart limit old other new = ⊥
+
   -- the flat process's registers
   abbrev pub AnswersRegs : ℕ → DebuggerValue T → DebugReply → DebuggerValue T → Type 0
   AnswersRegs hart old (Registers regs) new = (hart_registers hart (shown old.target) ≡ Some regs) × (new ≡ old)
@@ -104,6 +114,7 @@ module _ {T : Type 0} (shown : T → Process) (limits : T → Limit → Type 0) 
   Answers (Regs hart) old reply new = IsSomeAnd reply (λ reply. AnswersRegs hart old reply new)
   Answers (Mem address length) old reply new = IsSomeAnd reply (λ reply. AnswersMem address length old reply new)
   Answers (Run limit) old reply new = IsSomeAnd reply (λ reply. AnswersRun limit old reply new)
+  Answers (GoHart hart limit) old reply new = IsSomeAnd reply (λ reply. AnswersGoHart hart limit old reply new)
   Answers End old reply new = IsSomeAnd reply (λ reply. AnswersEnd old reply × (new ≡ old))
   Answers (line.Live hart) old reply new = IsSomeAnd reply (λ reply. AnswersLive hart old reply × (new ≡ old))
   Answers Quit old reply new = (reply ≡ None) × (new ≡ old)

@@ -4,11 +4,12 @@ use Rattle.text_lines.specs.Text.{words_of}
 use Rattle.text_lines.specs.Calls.{AreNameAndNumber, AreNameAndNumbers}
 use Rattle.text_lines.specs.Lines.{IsSkipped}
 use Rattle.debug_session.specs.declared.lines.DebugLine.{DebugLine}
-use Rattle.debug_session.specs.declared.lines.DebugLine.TheVariants.{Break, Watch, Remove, Step, Go, Regs, Mem, Run, End, Live, Quit}
+use Rattle.debug_session.specs.declared.lines.DebugLine.TheVariants.{Break, Watch, Remove, Step, Go, Regs, Mem, Run, GoHart, End, Live, Quit}
 use Rattle.debug_session.specs.declared.lines.Dialect.{Dialect}
 use Rattle.debug_session.specs.declared.lines.Dialect.TheVariants.{Fuller}
 
--- the words that ask for something in a dialect: in the plain one there is nothing that asks to run, for the end, or for live harts
+-- the words that ask for something in a dialect: in the plain one there is nothing that asks to run, by turns or one
+-- hart alone, for the end, or for live harts
 abbrev pub WritesLine : Dialect → DebugLine → List (List ℕ) → Type 0
 WritesLine dialect (Break address) words = AreNameAndNumber (codes "break") address words
 WritesLine dialect (Watch address length) words = AreNameAndNumbers (codes "watch") address length words
@@ -20,6 +21,7 @@ WritesLine dialect (Mem address length) words = AreNameAndNumbers (codes "mem") 
 WritesLine dialect Quit words = words ≡ codes "quit" ∷ []
 WritesLine dialect End words = (dialect ≡ Fuller) × (words ≡ codes "end" ∷ [])
 WritesLine dialect (Run limit) words = (dialect ≡ Fuller) × AreNameAndNumber (codes "run") limit words
+WritesLine dialect (GoHart hart limit) words = (dialect ≡ Fuller) × AreNameAndNumbers (codes "go-hart") hart limit words
 WritesLine dialect (Live hart) words = (dialect ≡ Fuller) × AreNameAndNumber (codes "live") hart words
 
 -- the same of one word that only the fuller dialect has
@@ -32,6 +34,11 @@ abbrev pub WritesFuller : Dialect → DebugLine → List ℕ → ℕ → Type 0
 WritesFuller dialect (Run limit) name number = (dialect ≡ Fuller) × (name ≡ codes "run") × (limit ≡ number)
 WritesFuller dialect (Live hart) name number = (dialect ≡ Fuller) × (name ≡ codes "live") × (hart ≡ number)
 WritesFuller dialect other name number = ⊥
+
+-- the same of a name with two numbers behind it that only the fuller dialect has
+abbrev pub WritesPair : Dialect → DebugLine → List ℕ → ℕ → ℕ → Type 0
+WritesPair dialect (GoHart hart limit) name first second = (dialect ≡ Fuller) × (name ≡ codes "go-hart") × (hart ≡ first) × (limit ≡ second)
+WritesPair dialect other name first second = ⊥
 
 -- a line that is not skipped, and whose words ask for something
 abbrev pub AsksFor : Dialect → DebugLine → List ℕ → Type 0

@@ -38,6 +38,7 @@ bytes_text (byte ∷ bytes) = byte_text byte ++ flat_map (λ b. codes " " ++ byt
 abbrev pub why_text : Why → ℕ → List ℕ
 why_text why.Ended turn = codes "ended"
 why_text (why.Watch number) turn = codes "watch " ++ decimal number
+why_text why.Gone turn = codes "gone"
 why_text (why.Break number) turn = codes "break " ++ decimal number ++ codes " hart " ++ decimal turn
 why_text why.Limit turn = codes "limit"
 why_text why.Absent turn = codes "absent"
@@ -46,6 +47,7 @@ why_text why.Absent turn = codes "absent"
 abbrev pub told_why : Why → List ℕ
 told_why why.Ended = codes "ended"
 told_why (why.Watch number) = codes "watch " ++ decimal number
+told_why why.Gone = codes "gone"
 told_why (why.Break number) = codes "break " ++ decimal number
 told_why why.Limit = codes "limit"
 told_why why.Absent = codes "absent"

@@ -1,6 +1,6 @@
 //! What a debugger does for a line, and replies.
 
-ghost use Rattle.debug_session.specs.Answers.{Answers, AnswersBreak, AnswersWatch, AnswersRemove, AnswersStep, AnswersGo, AnswersRun, AnswersEnd, AnswersLive, AnswersRegs, AnswersMem};
+ghost use Rattle.debug_session.specs.Answers.{Answers, AnswersBreak, AnswersWatch, AnswersRemove, AnswersStep, AnswersGo, AnswersRun, AnswersGoHart, AnswersEnd, AnswersLive, AnswersRegs, AnswersMem};
 
 use crate::lines::DebugLine;
 use crate::reply::DebugReply;
@@ -24,6 +24,7 @@ pub fn answer<T: Target>(
         DebugLine::Regs { hart } => Some(regs(debugger, hart)),
         DebugLine::Mem { address, length } => Some(mem(alloc, debugger, address, length)),
         DebugLine::Run { limit } => Some(run(debugger, limit)),
+        DebugLine::GoHart { hart, limit } => Some(go_hart(debugger, hart, limit)),
         DebugLine::End => Some(end(debugger)),
         DebugLine::Live { hart } => Some(is_live(debugger, hart)),
         DebugLine::Quit => None,
@@ -90,6 +91,20 @@ fn run<T: Target>(debugger: &mut Debugger<T>, limit: u32) -> DebugReply
             steps,
         },
         Err(AllocError) => DebugReply::Refused(DebugRefusal::NoMemory),
+    }
+}
+
+fn go_hart<T: Target>(debugger: &mut Debugger<T>, hart: u32, limit: u32) -> DebugReply
+    ensures { AnswersGoHart T.shown T.limits hart limit debugger.old result debugger.new }
+{
+    match debugger.go_hart(hart, u64::from(limit)) {
+        Ok((why, steps)) => DebugReply::Told {
+            why,
+            last: hart,
+            turn: debugger.turn(),
+            steps,
+        },
+        Err(refusal) => DebugReply::Refused(refusal),
     }
 }
 

@@ -3,7 +3,7 @@
 ghost use Rattle.std.specs.Prelude.{◌≡◌, ◌↔◌, ◌∷◌, [], IfOk, IfSome, IsErr, IsTrue, IsUtf8, None, Ok};
 ghost use Rattle.text_lines.specs.Text.{words_of};
 ghost use Rattle.text_lines.specs.Lines.{IsSkipped};
-ghost use Rattle.debug_session.specs.Lines.{AsksFor, WritesFuller, WritesLine, WritesWord};
+ghost use Rattle.debug_session.specs.Lines.{AsksFor, WritesFuller, WritesLine, WritesPair, WritesWord};
 ghost use Rattle.debug_session.specs.declared.lines.DebugLine.{DebugLine};
 
 use std::str;
@@ -14,7 +14,7 @@ use text_lines::{BadLine, is_skipped, next_word, word_number};
 pub enum Dialect {
     /// Those of `paged debug`.
     Plain,
-    /// Those and `run`, `end` and `live`.
+    /// Those and `run`, `go-hart`, `end` and `live`.
     Fuller,
 }
 
@@ -37,6 +37,8 @@ pub enum DebugLine {
     Mem { address: u32, length: u32 },
     /// The same as `Go`, with the harts told of the last step and of the next.
     Run { limit: u32 },
+    /// Run so many instructions at most of only one hart, with the harts of the last step and of the next in the reply.
+    GoHart { hart: u32, limit: u32 },
     /// Show how the process ended.
     End,
     /// Show whether a hart is live.
@@ -179,6 +181,27 @@ fn line_of_two(dialect: Dialect, name: &[u8], first: &[u8], second: &[u8]) -> Op
     } else if name == b"mem".as_slice() {
         Some(DebugLine::Mem { address, length })
     } else {
-        None
+        fuller_pair(dialect, name, address, length)
+    }
+}
+
+/// What a name and two numbers ask for beyond the plain lines.
+fn fuller_pair(dialect: Dialect, name: &[u8], first: u32, second: u32) -> Option<DebugLine>
+    ensures found { IfSome result (λ asked. WritesPair dialect asked name.now first second) }
+    ensures none { result ≡ None → (asked : DebugLine) →
+        ¬ WritesPair dialect asked name.now first second }
+{
+    match dialect {
+        Dialect::Plain => None,
+        Dialect::Fuller => {
+            if name == b"go-hart".as_slice() {
+                Some(DebugLine::GoHart {
+                    hart: first,
+                    limit: second,
+                })
+            } else {
+                None
+            }
+        }
     }
 }

@@ -76,6 +76,7 @@ impl fmt::Display for Stop {
         match self.why {
             Why::Ended => f.write_str("ended"),
             Why::Watch(number) => write!(f, "watch {number}"),
+            Why::Gone => f.write_str("gone"),
             Why::Break(number) => write!(f, "break {number} hart {turn}"),
             Why::Limit => f.write_str("limit"),
             Why::Absent => f.write_str("absent"),
@@ -97,6 +98,7 @@ impl fmt::Display for ToldStop {
         match self.0 {
             Why::Ended => f.write_str("ended"),
             Why::Watch(number) => write!(f, "watch {number}"),
+            Why::Gone => f.write_str("gone"),
             Why::Break(number) => write!(f, "break {number}"),
             Why::Limit => f.write_str("limit"),
             Why::Absent => f.write_str("absent"),

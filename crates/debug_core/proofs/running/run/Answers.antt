@@ -1,7 +1,7 @@
 use Rattle.std.proofs.Common.{None, Some, [], refl, ◌∙◌}
 use Rattle.std.specs.FinMap as map
 use Rattle.page_memory.specs.Memory.{unreserved}
-use Rattle.debug_core.specs.Debugging.{first_moment}
+use Rattle.debug_core.specs.Debugging.{opening_moment}
 use Rattle.debug_core.specs.Limits.{CannotRecord}
 use Rattle.debug_core.specs.Stops.{IsFullAt, Moment}
 use Rattle.debug_core.proofs.Passing.{advances_by, last_of_more, last_of_none, passes_none, passes_more, seen_nothing, stops_as}
@@ -11,56 +11,58 @@ use Rattle.debug_core.proofs.running.run.Goals as goal
 pub steps-init : goal.steps-init
 steps-init g c = record {
   was = unreserved map.empty;
-  passes = passes_none (g.T.Target.limits c.args.target.now) c.args.points.now c.args.limit (first_moment (g.T.Target.shown c.args.target.now) c.args.turn.now);
+  passes = passes_none (g.T.Target.limits c.args.target.now) c.args.points.now c.args.limit (opening_moment c.args.alone (g.T.Target.shown c.args.target.now) c.args.turn.now);
   seen = seen_nothing c.args.points.now c.requires.few c.requires.points;
   room = refl;
-  recorded = room_first (g.T.Target.limits c.args.target.now) (first_moment (g.T.Target.shown c.args.target.now) c.args.turn.now);
-  last = last_of_none (first_moment (g.T.Target.shown c.args.target.now) c.args.turn.now);
+  recorded = room_first (g.T.Target.limits c.args.target.now) (opening_moment c.args.alone (g.T.Target.shown c.args.target.now) c.args.turn.now);
+  last = last_of_none (opening_moment c.args.alone (g.T.Target.shown c.args.target.now) c.args.turn.now);
   live = c.requires.live;
+  lone = λ on. refl;
 }
 
 pub steps-preserved : goal.steps-preserved
 steps-preserved g c =
     let shown = g.T.Target.shown in
     let limits = g.T.Target.limits in
-    let first : Moment = first_moment (shown c.args.target.now) c.args.turn.now in
-    let now : Moment = record { process = shown c.steps.target; turn = c.steps.turn; was = c.steps.invariant.was } in
-    let next : Moment = record { process = shown c.advance.new.target; turn = c.advance.new.turn; was = (shown c.steps.target).memory } in
+    let first : Moment = opening_moment c.args.alone (shown c.args.target.now) c.args.turn.now in
+    let now : Moment = record { process = shown c.steps.target; turn = c.steps.turn; was = c.steps.invariant.was; alone = c.args.alone } in
+    let next : Moment = record { process = shown c.advance.new.target; turn = c.advance.new.turn; was = (shown c.steps.target).memory; alone = c.args.alone } in
     let goes =
-    advances_by shown limits (limits c.steps.target (CannotRecord [] c.steps.turn)) c.in-Ok-None.field-0 None c.args.points.now c.args.limit c.steps.done now c.advance.new.turn (shown c.advance.new.target) c.in-Ok-None.field-0-is
+    advances_by shown limits (limits c.steps.target (CannotRecord [] c.steps.turn)) c.in-Ok-None.field-0 None c.args.points.now c.args.limit c.steps.steps now c.advance.new.turn (shown c.advance.new.target) c.in-Ok-None.field-0-is
     (c.in-Ok-None.ensures.advances c.steps.invariant.was c.steps.invariant.seen) in
-    let here = room_here (limits c.args.target.now) (limits c.steps.target) c.steps.done first c.steps.turn c.steps.invariant.recorded in
+    let here = room_here (limits c.args.target.now) (limits c.steps.target) c.steps.steps first c.steps.turn c.steps.invariant.recorded in
     record {
       was = (shown c.steps.target).memory;
       passes =
-          passes_more (limits c.args.target.now) c.args.points.now c.args.limit c.steps.done first now next c.steps.invariant.passes goes.0 (λ full. goes.1.1 (here.1 full)) goes.1.0
+          passes_more (limits c.args.target.now) c.args.points.now c.args.limit c.steps.steps first now next c.steps.invariant.passes goes.0 (λ full. goes.1.1 (here.1 full)) goes.1.0
           (c.in-Ok-None.ensures.goes_on c.in-Ok-None.field-0-is);
       seen = c.in-Ok-None.ensures.seen c.in-Ok-None.field-0-is;
       room = c.in-Ok-None.ensures.room ∙ c.steps.invariant.room;
       recorded =
-          room_more (limits c.args.target.now) (limits c.steps.target) (limits c.advance.new.target) c.steps.done first now c.steps.invariant.passes.reached c.steps.invariant.recorded
+          room_more (limits c.args.target.now) (limits c.steps.target) (limits c.advance.new.target) c.steps.steps first now c.steps.invariant.passes.reached c.steps.invariant.recorded
           (c.in-Ok-None.ensures.recorded c.in-Ok-None.field-0-is);
-      last = last_of_more c.steps.done first now c.steps.invariant.passes.reached;
+      last = last_of_more c.steps.steps first now c.steps.invariant.passes.reached;
       live = c.in-Ok-None.ensures.live;
+      lone = λ on. c.in-Ok-None.ensures.alone on ∙ c.steps.invariant.lone on;
     }
 
 pub returns-in-Ok-Some-clause-stops : goal.returns-in-Ok-Some-clause-stops
 returns-in-Ok-Some-clause-stops g c =
     let shown = g.T.Target.shown in
     let limits = g.T.Target.limits in
-    let first : Moment = first_moment (shown c.args.target.now) c.args.turn.now in
-    let now : Moment = record { process = shown c.steps.target; turn = c.steps.turn; was = c.steps.invariant.was } in
+    let first : Moment = opening_moment c.args.alone (shown c.args.target.now) c.args.turn.now in
+    let now : Moment = record { process = shown c.steps.target; turn = c.steps.turn; was = c.steps.invariant.was; alone = c.args.alone } in
     let full = limits c.steps.target (CannotRecord [] c.steps.turn) in
     let stop =
-    advances_by shown limits full c.in-Ok-Some.field-0 (Some c.in-Ok-Some.why) c.args.points.now c.args.limit c.steps.done now c.advance.new.turn (shown c.advance.new.target) c.in-Ok-Some.field-0-is
+    advances_by shown limits full c.in-Ok-Some.field-0 (Some c.in-Ok-Some.why) c.args.points.now c.args.limit c.steps.steps now c.advance.new.turn (shown c.advance.new.target) c.in-Ok-Some.field-0-is
     (c.in-Ok-Some.ensures.advances c.steps.invariant.was c.steps.invariant.seen) in
     record {
       now = now;
       passes = c.steps.invariant.passes;
       stops =
-          stops_as shown limits full (IsFullAt (limits c.args.target.now) c.steps.done first now)
-          (room_here (limits c.args.target.now) (limits c.steps.target) c.steps.done first c.steps.turn c.steps.invariant.recorded)
-          c.in-Ok-Some.why c.args.points.now c.args.limit c.steps.done now (shown c.advance.new.target) stop.0;
+          stops_as shown limits full (IsFullAt (limits c.args.target.now) c.steps.steps first now)
+          (room_here (limits c.args.target.now) (limits c.steps.target) c.steps.steps first c.steps.turn c.steps.invariant.recorded)
+          c.in-Ok-Some.why c.args.points.now c.args.limit c.steps.steps now (shown c.advance.new.target) stop.0;
       turn_is = stop.1;
     }
 
@@ -68,10 +70,9 @@ pub returns-in-Err-clause-wants : goal.returns-in-Err-clause-wants
 returns-in-Err-clause-wants g c =
     let shown = g.T.Target.shown in
     let limits = g.T.Target.limits in
-    let here = room_here (limits c.args.target.now) (limits c.steps.target) c.steps.done (first_moment (shown c.args.target.now) c.args.turn.now) c.steps.turn c.steps.invariant.recorded in
+    let here = room_here (limits c.args.target.now) (limits c.steps.target) c.steps.steps (opening_moment c.args.alone (shown c.args.target.now) c.args.turn.now) c.steps.turn c.steps.invariant.recorded in
     record {
-      count = c.steps.done;
-      now = record { process = shown c.steps.target; turn = c.steps.turn; was = c.steps.invariant.was };
+      now = record { process = shown c.steps.target; turn = c.steps.turn; was = c.steps.invariant.was; alone = c.args.alone };
       passes = c.steps.invariant.passes;
       none = c.in-Err.ensures.wants c.steps.invariant.was c.steps.invariant.seen;
       recordable = λ full. c.in-Err.ensures.err.1.1 (here.1 full);

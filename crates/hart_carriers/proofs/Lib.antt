@@ -4,3 +4,4 @@ pub mod FlatRuns
 pub mod Growing
 pub mod Showing
 pub mod Reported
+pub mod Turns

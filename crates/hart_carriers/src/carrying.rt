@@ -1,6 +1,7 @@
 //! A worker's rounds over the harts that fall to it.
 
-ghost use Rattle.std.specs.Prelude.{◌≡◌, ◌==◌, ◌+◌, ◌%◌, ◌<◌};
+ghost use Rattle.std.specs.Prelude.{◌≡◌, ◌==◌, ◌+◌, ◌%◌, ◌<◌, ◌≤◌, IfSome};
+ghost use Rattle.hart_carriers.specs.Causes.{cause_of_stop};
 
 use crate::crew::Shift;
 use crate::paging_in::bring_in;
@@ -217,10 +218,7 @@ fn carry_hart<L: Ledger, S: SwapSlot, C: Clock, G: Gate, R: Wait>(
             return has_run;
         }
         let part = run_part(rt, locks, process, hart, seat, gate);
-        if part.ran {
-            has_run = true;
-            locks.end_press(process, hart);
-        }
+        has_run = has_run || part.ran != 0;
         if part.is_last {
             return has_run;
         }
@@ -231,13 +229,13 @@ fn carry_hart<L: Ledger, S: SwapSlot, C: Clock, G: Gate, R: Wait>(
 /// What a part of a hart's turn came to.
 #[derive(Clone, Copy)]
 struct Part {
-    /// Whether any instruction ran.
-    ran: bool,
+    /// How many instructions ran.
+    ran: u32,
     /// Whether the turn is over: else it goes on once the page has come in that the hart lacks by now.
     is_last: bool,
 }
 
-/// Runs a hart by a slice, no longer than what is left of its turn. It is lent the processes' locks alone: no instruction runs while its
+/// Runs a hart by a slice, no longer than what is left of its turn. It is lent only the processes' locks: no instruction runs while its
 /// carrier has the pager's lock or the slots'.
 fn run_part<L: Ledger, S: SwapSlot, G: Gate, R: Wait>(
     rt: &R,
@@ -246,16 +244,18 @@ fn run_part<L: Ledger, S: SwapSlot, G: Gate, R: Wait>(
     hart: u32,
     seat: &mut Seat,
     gate: &G,
-) -> Part {
+) -> Part
+    ensures within { result.ran + seat.new.left ≤ seat.old.left }
+{
     let Some(slice) = slice_of(rt, locks, process, hart, seat.left) else {
         return Part {
-            ran: false,
+            ran: 0,
             is_last: true,
         };
     };
     let Slice { ran, stop } = slice;
     gate.after_slice(process, hart, ran);
-    seat.left = seat.left.saturating_sub(ran).max(1);
+    seat.left = seat.left.saturating_sub(ran);
     if let SliceStop::Absent(vpn) = stop {
         seat.lack = Some(Lack {
             vpn,
@@ -264,7 +264,7 @@ fn run_part<L: Ledger, S: SwapSlot, G: Gate, R: Wait>(
             tried: None,
         });
         return Part {
-            ran: ran != 0,
+            ran,
             is_last: false,
         };
     }
@@ -273,27 +273,29 @@ fn run_part<L: Ledger, S: SwapSlot, G: Gate, R: Wait>(
     }
     seat.left = 0;
     locks.end_turn(process, hart, matches!(stop, SliceStop::Yield));
-    Part {
-        ran: ran != 0,
-        is_last: true,
-    }
+    Part { ran, is_last: true }
 }
 
-/// A slice of a hart of up to so many instructions, if there is such a process.
+/// A slice of a hart of up to so many instructions, if there is such a process and no other hart of it is pressed.
+#[tactic(auto, using(crate::proofs::Turns::slice_within))]
 fn slice_of<L: Ledger, S: SwapSlot, R: Wait>(
     rt: &R,
     locks: &ProcessLocks<L, S>,
     process: u32,
     hart: u32,
     budget: u32,
-) -> Option<Slice> {
+) -> Option<Slice>
+    ensures within { IfSome result (λ slice. slice.ran ≤ budget) }
+{
     let hold = locks.slice(rt, process, hart, budget)?;
     let HoldOfProcess { reply, .. } = hold;
     reply
 }
 
 /// Why a process is ended for what a slice of it stopped for.
-fn failure(stop: SliceStop) -> Option<KillCause> {
+fn failure(stop: SliceStop) -> Option<KillCause>
+    ensures { result ≡ cause_of_stop stop }
+{
     match stop {
         SliceStop::ScheduleFull => Some(KillCause::ScheduleFull),
         SliceStop::NoMemory => Some(KillCause::NoMemory),

@@ -1,5 +1,8 @@
 //! A page that a hart lacks is brought in, or its process ended.
 
+ghost use Rattle.std.specs.Prelude.{◌≡◌};
+ghost use Rattle.hart_carriers.specs.Causes.{cause_of_failures};
+
 use crate::seats::{EMPTY, Lack, Seat};
 use clock_policy::{Clock, Key};
 use flat_machine::KillCause;
@@ -91,8 +94,8 @@ pub(crate) fn bring_in<L: Ledger, S: SwapSlot, C: Clock, G: Gate, R: Wait>(
             Try::LoadFault => {
                 let faults = lack.faults.saturating_add(1);
                 seat.lack = Some(Lack { faults, ..lack });
-                if faults >= MOST_LOAD_FAULTS {
-                    locks.kill(rt, process, KillCause::LoadFailed);
+                if let Some(cause) = cause_of_failures(faults) {
+                    locks.kill(rt, process, cause);
                     return false;
                 }
             }
@@ -168,6 +171,17 @@ fn try_page<L: Ledger, S: SwapSlot, C: Clock, G: Gate, R: Wait>(
             shared.undo(rt, admission);
             after_fault(fault)
         }
+    }
+}
+
+/// Why a process is ended for a page that could not be loaded so often in a row.
+fn cause_of_failures(count: u32) -> Option<KillCause>
+    ensures { result ≡ cause_of_failures count }
+{
+    if count >= MOST_LOAD_FAULTS {
+        Some(KillCause::LoadFailed)
+    } else {
+        None
     }
 }
 

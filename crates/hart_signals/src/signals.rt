@@ -15,7 +15,7 @@ struct Signs {
     callers: Callers,
     /// Above 0 where the process has ended since this was asked last.
     ended: AtomicU64,
-    /// The number, and one more, of the hart that only may run: it waits for a frame, and a page of the process could not leave. Or 0.
+    /// The number, and one more, of the hart that is pressed, or 0: as the process's lock has it.
     pressed: AtomicU64,
     /// The number, and one more, of the worker that waits until an instruction of the process has run, or 0.
     watcher: AtomicU64,
@@ -267,8 +267,7 @@ impl Signals {
         }
     }
 
-    /// A page of a process could not leave while room is made for a hart of the same process. Only that hart may run until an instruction of it has run: so
-    /// the count of tries means what it means where one thread runs all.
+    /// A hart of a process is pressed, unless one is already: no other one may run. Whoever says so has the process's lock.
     pub fn press(&self, process: u32, hart: u32) {
         if let Some(signs) = self.processes.get(process as usize) {
             if signs.pressed.load(Ordering::SeqCst) == 0 {
@@ -279,13 +278,11 @@ impl Signals {
         }
     }
 
-    /// An instruction of a hart has run: the others of its process may run again.
-    pub fn end_press(&self, process: u32, hart: u32) {
+    /// No hart of a process is pressed any more: the others may run again. Whoever says so has the process's lock.
+    pub fn end_press(&self, process: u32) {
         if let Some(signs) = self.processes.get(process as usize) {
-            if signs.pressed.load(Ordering::SeqCst) == u64::from(hart).wrapping_add(1) {
-                signs.pressed.store(0, Ordering::SeqCst);
-                self.tell_harts(process);
-            }
+            signs.pressed.store(0, Ordering::SeqCst);
+            self.tell_harts(process);
         }
     }
 

@@ -1,5 +1,5 @@
 -- What is done to a process under its lock alone, and what is published of it then.
-use Rattle.std.specs.Prelude.{◌≡◌, ℕ, ◌==◌, List, if◌then◌else◌}
+use Rattle.std.specs.Prelude.{◌≡◌, ℕ, ◌==◌, Bool, true, List, Option, None, Some, if◌then◌else◌}
 use Rattle.flat_machine.specs.declared.end.KillCause.{KillCause}
 use Rattle.machine_sides.specs.Admitting.{AdmissionValue}
 use Rattle.machine_sides.specs.Loading.{Loads, DoesNotLoad}
@@ -14,6 +14,15 @@ use Rattle.held_process.specs.HeldValue.{HeldValue, status_of}
 abbrev pub tries_after : ℕ → ℕ → ℕ
 tries_after ran tries = if ran == 0 then tries else 0
 
+-- which hart is pressed after a slice: none where an instruction ran
+abbrev pub pressed_after : ℕ → Option ℕ → Option ℕ
+pressed_after ran pressed = if ran == 0 then pressed else None
+
+-- whether a hart may run: no other one is pressed
+abbrev pub may_go : ℕ → Option ℕ → Bool
+may_go hart None = true
+may_go hart (Some pressed) = pressed == hart
+
 module _ {S : Type 0} where
   -- what is published is how far the process has come
   abbrev pub Publishes : HeldValue S → HeldValue S → Type 0
@@ -27,15 +36,17 @@ module _ {S : Type 0} where
     pub published : Publishes old new
     pub tries : new.tries ≡ tries_after ran old.tries
     pub cleans : new.cleans ≡ old.cleans
+    pub pressed : new.pressed ≡ pressed_after ran old.pressed
 
   -- a hart drops its translations that are to be dropped
   pub record NoticesHeld (hart : ℕ) (old new : HeldValue S) : Type 0 where
     pub notices : TakesNotices hart old.side new.side
     pub held_is : new ≡ record old { side = new.side }
 
-  -- a slice of a hart of the process of this number
+  -- a slice of a hart of the process of this number, of which no other hart is pressed
   pub record RunsHart (content : S → List ℕ) (honest : Type 0) (number hart budget : ℕ) (old new : HeldValue S) (ran : ℕ) (why : SliceStop) : Type 0 where
     pub process : old.side.memory.process ≡ number
+    pub may_run : may_go hart old.pressed ≡ true
     pub slice : SlicesHeld content honest hart budget old new ran why
 
   -- the machine ends the process, which is published
@@ -44,6 +55,7 @@ module _ {S : Type 0} where
     pub published : Publishes old new
     pub tries : new.tries ≡ old.tries
     pub cleans : new.cleans ≡ old.cleans
+    pub pressed : new.pressed ≡ old.pressed
 
   -- an admitted page is loaded and mapped, or the admission comes back; either counts as a try
   pub record LoadsHeld (content : S → List ℕ) (honest : Type 0) (admission : AdmissionValue) (old new : HeldValue S) : Type 0 where

@@ -9,9 +9,9 @@ ghost use Rattle.machine_sides.specs.Together.{key_of};
 ghost use Rattle.pager_core.specs.Pager.{PagerState};
 ghost use Rattle.held_process.specs.HeldValue.{status_of};
 ghost use Rattle.held_process.specs.Holding.{RunsWhere, NoticesWhere, KillsNumberWhere};
-ghost use Rattle.held_process.specs.Holding.{KillsSpentWhere};
+ghost use Rattle.held_process.specs.Holding.{KillsSpentWhere, PressesWhere};
 ghost use Rattle.held_process.specs.Running.{SlicesHeld, NoticesHeld, KillsHeld, LoadsHeld};
-ghost use Rattle.held_process.specs.Running.{DoesNotLoadHeld, tries_after};
+ghost use Rattle.held_process.specs.Running.{DoesNotLoadHeld, may_go, pressed_after, tries_after};
 ghost use Rattle.space_core.specs.StandsFor.{StandsFor};
 ghost use Rattle.status_cell.specs.Counts.{nothing};
 ghost use Rattle.status_cell.specs.ViewerValue.{viewer_value};
@@ -39,6 +39,8 @@ pub struct Held<L: Ledger, S: SwapSlot> {
     pub(crate) tries: u64,
     /// Pages that were cleaned ahead.
     pub(crate) cleans: u64,
+    /// The hart that only may run, until an instruction of it has run.
+    pressed: Option<u32>,
 }
 
 impl<L: Ledger, S: SwapSlot> Model for Held<L, S> {
@@ -52,6 +54,7 @@ impl<L: Ledger, S: SwapSlot> Model for Held<L, S> {
       writer = h.writer;
       tries = h.tries;
       cleans = h.cleans;
+      pressed = h.pressed;
     } };
 
     ghost invariant = { λ h. record {
@@ -73,6 +76,7 @@ impl<L: Ledger, S: SwapSlot> Held<L, S> {
             Begins number (start_of image input.items) made.0.side) }
         ensures tries { IfOk result (λ made. made.0.tries ≡ 0) }
         ensures cleans { IfOk result (λ made. made.0.cleans ≡ 0) }
+        ensures pressed { IfOk result (λ made. made.0.pressed ≡ None) }
         ensures viewer { IfOk result (λ made. made.1 ≡ viewer_value made.0.writer.cell nothing) }
     {
         let side = start(alloc, number, image, input)?;
@@ -88,6 +92,7 @@ impl<L: Ledger, S: SwapSlot> Held<L, S> {
                 told,
                 tries: 0,
                 cleans: 0,
+                pressed: None,
             },
             viewer,
         ))
@@ -147,6 +152,13 @@ impl<L: Ledger, S: SwapSlot> Held<L, S> {
         self.cleans
     }
 
+    /// The hart that is pressed, if one is: no other one runs until an instruction of it has run.
+    pub fn pressed(&self) -> Option<u32>
+        ensures { result ≡ self.now.pressed }
+    {
+        self.pressed
+    }
+
     /// Runs up to so many instructions of a hart, which then drops its translations that are to be dropped, and publishes how far the process
     /// has come.
     #[tactic(auto, using(crate::proofs::Statuses::slice_steps, crate::proofs::Statuses::slice_rises, crate::proofs::Statuses::notice_leaves))]
@@ -156,6 +168,7 @@ impl<L: Ledger, S: SwapSlot> Held<L, S> {
     {
         let slice = run_slice(&mut self.side, hart, budget);
         self.tries = tries_after(slice.ran, self.tries);
+        self.pressed = pressed_after(slice.ran, self.pressed);
         let told = status_after(&self.side, self.told.steps, slice.ran);
         self.side.take_notices(hart);
         self.writer.publish(rt, told);
@@ -180,7 +193,7 @@ impl<L: Ledger, S: SwapSlot> Held<L, S> {
         self.writer.publish(rt, self.told);
     }
 
-    /// A hart's slice, where the process is the one of this number.
+    /// A hart's slice, where the process is the one of this number and no other hart of it is pressed.
     pub fn slice_of<R: Wait>(
         &mut self,
         rt: &R,
@@ -190,10 +203,23 @@ impl<L: Ledger, S: SwapSlot> Held<L, S> {
     ) -> Option<Slice>
         ensures { RunsWhere S.content S.honest number hart budget result self.old self.new }
     {
-        if self.process() != number {
+        if self.process() != number || !may_go(hart, self.pressed) {
             return None;
         }
         Some(self.slice(rt, hart, budget))
+    }
+
+    /// A hart is pressed, unless one is already, where the process is the one of this number. Answers whether it is.
+    pub fn press_of(&mut self, number: u32, hart: u32) -> bool
+        ensures { PressesWhere number hart result self.old self.new }
+    {
+        if self.process() != number {
+            return false;
+        }
+        if self.pressed.is_none() {
+            self.pressed = Some(hart);
+        }
+        true
     }
 
     /// A hart takes notice, where the process is the one of this number. Answers whether it is.
@@ -265,6 +291,23 @@ fn status_after<L: Ledger, S: SwapSlot>(side: &Space<L, S>, steps: u64, ran: u32
         steps: steps + u64::from(ran),
         output: side.output().len() as u64,
     }
+}
+
+/// Whether a hart may run: no other one is pressed.
+fn may_go(hart: u32, pressed: Option<u32>) -> bool
+    ensures { result ≡ may_go hart pressed }
+{
+    match pressed {
+        None => true,
+        Some(pressed) => pressed == hart,
+    }
+}
+
+/// Which hart is pressed after a slice: none where an instruction ran.
+fn pressed_after(ran: u32, pressed: Option<u32>) -> Option<u32>
+    ensures { result ≡ pressed_after ran pressed }
+{
+    if ran == 0 { pressed } else { None }
 }
 
 /// The tries of a process after a slice: they begin anew where an instruction ran.

@@ -6,7 +6,7 @@ ghost use Rattle.std.specs.Prelude.{◌≡◌, ◌≤◌, ◌↔◌, nat_le, IfS
 ghost use Rattle.std.specs.Sync.Mutex.{mutex_guard_value};
 ghost use Rattle.held_process.specs.Cleaning.{BeginsWhere, CleansWhere};
 ghost use Rattle.held_process.specs.Holding.{RunsWhere, NoticesWhere, KillsNumberWhere};
-ghost use Rattle.held_process.specs.Holding.{KillsSpentWhere};
+ghost use Rattle.held_process.specs.Holding.{KillsSpentWhere, PressesWhere};
 
 use crate::holds::Change;
 use crate::process_locks::ProcessLocks;
@@ -47,7 +47,7 @@ impl<L: Ledger, S: SwapSlot> Found<L, S> {
 impl<L: Ledger, S: SwapSlot> ProcessLocks<L, S> {
     /// A slice of a hart, after which it drops its translations that are to be dropped; how far the process has come is published.
     ///
-    /// There is none where there is no such process, and no reply where the process is another one.
+    /// There is none where there is no such process, and no reply where the process is another one or another hart of it is pressed.
     pub fn slice<R: Wait>(
         &self,
         rt: &R,
@@ -63,12 +63,42 @@ impl<L: Ledger, S: SwapSlot> ProcessLocks<L, S> {
         self.let_callers_pass(rt, number);
         let mut held = lock.lock(rt);
         let found = Found::under(&*held);
+        let was_pressed = held.pressed().is_some();
         let reply = held.slice_of(rt, number, hart, budget);
+        if was_pressed && held.pressed().is_none() {
+            self.signals().end_press(number);
+        }
         let hold = self.publish(number, held, found, reply);
         if has_run(&hold.reply) {
             self.signals().tell_ran(number);
         }
         Some(hold)
+    }
+
+    /// A page of a process could not leave while room is made for this hart of it. Until an instruction of that hart has run, no other one of the
+    /// process runs: so the count of tries means what it means where one thread runs all. Where one is pressed already it stays the one.
+    ///
+    /// There is none where there is no such process; it answers whether the process is not another one.
+    pub fn press<R: Wait>(
+        &self,
+        rt: &R,
+        number: u32,
+        hart: u32,
+    ) -> Option<HoldOfProcess<L, S, bool>>
+        ensures none { IsNone result ↔ (self.now.processes ≤ number) }
+        ensures some { IfSome result (λ hold. PressesWhere number hart hold.reply
+            hold.process.before.value hold.process.after.value) }
+    {
+        let lock = self.get(number)?;
+        let mut held = self.lock_first(rt, number, lock);
+        let before = Snapshot::of(&*held);
+        let reply = held.press_of(number, hart);
+        if reply {
+            self.signals().press(number, hart);
+        } else {
+            self.misplace();
+        }
+        Some(let_go(held, before, reply))
     }
 
     /// A hart of a process drops its translations that are to be dropped.

@@ -106,7 +106,7 @@ impl<L: Ledger, S: SwapSlot> ProcessLocks<L, S> {
             return true;
         }
         if stuck == number {
-            signals.press(number, hart);
+            let _ = self.press(rt, number, hart);
             return true;
         }
         let rings = self.rings(worker);
@@ -122,11 +122,6 @@ impl<L: Ledger, S: SwapSlot> ProcessLocks<L, S> {
                 false
             }
         }
-    }
-
-    /// An instruction of a hart has run that waited for a frame: the other harts of its process may run again.
-    pub fn end_press(&self, number: u32, hart: u32) {
-        self.signals().end_press(number, hart);
     }
 
     /// The least process of which a worker has a hart that waits for a frame, if there is one.

@@ -1,5 +1,5 @@
 -- What a process has come to, as it is told, is what a flat run comes to.
-use Rattle.std.proofs.Common.{◌≡◌, ℕ, List, length, ap, ◌∙◌}
+use Rattle.std.proofs.Common.{◌≡◌, ℕ, List, length, ap}
 use Rattle.elf_image.specs.Start.{Start}
 use Rattle.flat_machine.specs.Schedule.{written_out}
 use Rattle.hart_carriers.specs.Counts.{status_of}

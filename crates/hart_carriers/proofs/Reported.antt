@@ -4,7 +4,7 @@ use Rattle.std.specs.Prelude.{IfSome}
 use Rattle.std.proofs.lemmas.List.{length-map}
 use Rattle.std.proofs.lemmas.Option.{slice_get-map, none-some}
 use Rattle.elf_image.specs.Image.{ImageContent}
-use Rattle.elf_image.specs.Start.{Start, start_of}
+use Rattle.elf_image.specs.Start.{start_of}
 use Rattle.hart_carriers.specs.Ending.{EndsSound, HaveEnded, IsCrewOf, IsReportOf, ShowLines}
 use Rattle.hart_carriers.specs.FlatLines.{counts_of, starts_of, StandsForRuns}
 use Rattle.hart_carriers.specs.declared.crew.CrewRequest.{CrewRequest}

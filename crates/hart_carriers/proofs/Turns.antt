@@ -1,5 +1,5 @@
 -- A slice under a process's lock is no longer than was allowed.
-use Rattle.std.proofs.Common.{◌≡◌, ◌≤◌, ℕ, List, Option, Some, None, IfSome, tt}
+use Rattle.std.proofs.Common.{◌≤◌, ℕ, List, Option, Some, None, IfSome}
 use Rattle.held_process.specs.HeldValue.{HeldValue}
 use Rattle.held_process.specs.Holding.{RunsWhere}
 use Rattle.space_core.specs.declared.progress.Slice.{Slice}

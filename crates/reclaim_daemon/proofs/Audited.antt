@@ -1,5 +1,5 @@
 -- An audit goes through the processes, one lock after another.
-use Rattle.std.proofs.Common.{◌≡◌, ℕ, ◌+◌, List, [], ◌∷◌, ◌++◌, length, map, sym, ◌∙◌}
+use Rattle.std.proofs.Common.{◌≡◌, ℕ, ◌+◌, List, [], ◌∷◌, ◌++◌, map, sym, ◌∙◌}
 use Rattle.std.proofs.lemmas.List.{length-map}
 use Rattle.machine_sides.specs.AuditLaws.{CountedSo, counted_none, counted_push, sound_all}
 use Rattle.machine_sides.specs.Auditing.{CountsMore}

@@ -1,6 +1,5 @@
-use Rattle.std.proofs.Common.{◌≡◌, ◌<◌, length, map, Vec, arith, sym, ap, ◌∙◌, subst}
-use Rattle.hart_carriers.specs.FlatLines.{StandsForRuns, counts_of}
-use Rattle.hart_carriers.proofs.Growing.{told_more, told_less, told_all, many_more}
+use Rattle.std.proofs.Common.{◌≡◌, ◌<◌, length, arith}
+use Rattle.hart_carriers.proofs.Growing.{told_more, told_all, many_more}
 use Rattle.hart_carriers.proofs.lines.tell.Goals as goal
 
 pub loop-ran-preserved-then-len-handed : goal.loop-ran-preserved-then-len-handed

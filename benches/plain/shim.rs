@@ -103,8 +103,27 @@ pub mod time {
     pub use std::time::Duration;
 }
 
+pub mod str {
+    pub use std::str::*;
+}
+
 pub mod io {
     pub use std::io::*;
+
+    /// A reader whose room may be refused.
+    pub struct BufReader<R>(std::io::BufReader<R>);
+
+    impl<R: Read> BufReader<R> {
+        pub fn new(_: crate::alloc::Global, inner: R) -> core::result::Result<Self, crate::alloc::AllocError> {
+            Ok(BufReader(std::io::BufReader::new(inner)))
+        }
+    }
+
+    impl<R: Read> Read for BufReader<R> {
+        fn read(&mut self, bytes: &mut [u8]) -> Result<usize> {
+            self.0.read(bytes)
+        }
+    }
 }
 
 pub mod thread {

@@ -3,6 +3,8 @@
 //! It takes right words only, and prints for them what the proved programs print. Every run says on standard error that nothing is proved.
 
 use clock_ring::ClockRing;
+use debug_core::{Debugger, Target};
+use debug_session::{Dialect, SessionFault};
 use elf_image::Image;
 use flat_machine::{End, FlatProcess};
 use rattle::alloc::Global;
@@ -253,6 +255,32 @@ fn guest_run(words: &[String]) -> u8 {
     }
 }
 
+/// `debug`, and `guest debug` with more lines and an input: a debugger's replies to the lines of standard input.
+fn debug(name: &str, dialect: Dialect, words: &[String]) -> u8 {
+    let words = Words::read(words, &["--frames", "--input"], &[]);
+    let [image] = &words.others[..] else { fail(&format!("{name}: bad usage")) };
+    let (image, input) = (read_image(image), words.input());
+    let no_memory = || -> ! { fail(&format!("{name}: no memory")) };
+    let conversed = if words.has("--frames") {
+        let frames = words.number("--frames", 4, 4, 4096);
+        let blank = Blank::new(u64::from(frames) + 1);
+        let target = paged_target::PagedTarget::<Brand, ClockRing>::new(Global, frames, blank, slots(4096), image, input);
+        converse(dialect, target.unwrap_or_else(|_| no_memory()))
+    } else {
+        converse(dialect, FlatProcess::new(Global, &image, input).unwrap_or_else(|_| no_memory()))
+    };
+    match conversed {
+        Ok(()) => 0,
+        Err(SessionFault::BadLine(number)) => fail(&format!("{name}: line {number}: bad line")),
+        Err(_) => fail(&format!("{name}: standard input: cannot read")),
+    }
+}
+
+fn converse<T: Target>(dialect: Dialect, target: T) -> Result<(), SessionFault> {
+    let mut debugger = Debugger::new(target);
+    debug_session::converse(Global, dialect, &mut debugger, std::io::stdin(), &mut std::io::stdout())
+}
+
 fn main() {
     let words: Vec<String> = std::env::args().skip(1).collect();
     eprintln!("unproved: this program was made of the sources without their proofs");
@@ -261,8 +289,10 @@ fn main() {
         Some(("run", rest)) => run(rest),
         Some(("drive", rest)) => drive(rest),
         Some(("asm", rest)) => asm(rest),
+        Some(("debug", rest)) => debug("paged", Dialect::Plain, rest),
         Some(("guest", [first, rest @ ..])) if first == "run" => guest_run(rest),
-        _ => fail("unproved: flat, run, drive, asm or guest run"),
+        Some(("guest", [first, rest @ ..])) if first == "debug" => debug("guest", Dialect::Fuller, rest),
+        _ => fail("unproved: flat, run, drive, asm, debug, guest run or guest debug"),
     };
     exit(i32::from(status))
 }

@@ -1,4 +1,5 @@
 """The films that the program `show_run` writes: a line of JSON for the head, one for each scene, and one for what was written."""
+import json
 import os
 import re
 import subprocess
@@ -50,11 +51,11 @@ class Progress:
 class Film:
     """A film that was read: its head and its last line as they stand, and the lines of its scenes with their events and replies."""
 
-    def __init__(self, words):
+    def __init__(self, words, said=None):
         self.lines, self.events, self.head, self.outputs = [], [], None, None
         progress = Progress()
         # a slot's file that takes no more is a failed save, and no signal that ends the program
-        with subprocess.Popen([program(), *words], stdout=subprocess.PIPE, text=True, encoding="ascii", restore_signals=False) as run:
+        with subprocess.Popen([program(), *words], stdout=subprocess.PIPE, stderr=said, text=True, encoding="ascii", restore_signals=False) as run:
             try:
                 self.read(run.stdout, progress)
             except BaseException:
@@ -82,10 +83,47 @@ class Film:
         """The events that happened, each with its reply."""
         return [(event, reply) for event, reply in self.events if event]
 
+    def frames(self):
+        return json.loads(self.head)["frames"]
+
+    def last_scene(self):
+        """The last scene, whole: what it leaves out is as in the scenes before it, from the last one on that is whole."""
+        scene = None
+        for line in self.lines[(len(self.lines) - 1) // SCENES_OF_A_PIECE * SCENES_OF_A_PIECE:]:
+            told = json.loads(line)
+            scene = unfolded(told, scene) if scene and told["event"] else told
+        return scene
+
     def pieces(self):
         """The scenes, each piece from one that is whole on."""
         for start in range(0, len(self.lines), SCENES_OF_A_PIECE):
             yield "[" + ",".join(self.lines[start:start + SCENES_OF_A_PIECE]) + "]"
+
+
+def unfolded(scene, before):
+    """A scene with what it leaves out, which is as in the scene before it."""
+    pages = {row[0]: row for row in (*before["pages"], *scene.get("pages", ()))}
+    whole = {**before, **scene, "pages": list(pages.values())}
+    if scene.get("processes"):
+        whole["processes"] = [unfolded_process(told, was) for told, was in zip(scene["processes"], before["processes"])]
+    return whole
+
+
+def unfolded_process(told, before):
+    if not told:
+        return before
+    harts = [unfolded_hart(hart, before["harts"][k] if k < len(before["harts"]) else None) for k, hart in enumerate(told["harts"])]
+    tables = [before["tables"][k] if table is None else table for k, table in enumerate(told["tables"])]
+    return {"end": told["end"], "harts": harts, "tables": tables}
+
+
+def unfolded_hart(told, before):
+    if not told or not before:
+        return told or before
+    x = before["x"][:]
+    for place, value in told["x"]:
+        x[place] = value
+    return {**before, **told, "x": x}
 
 
 def closing(happened, processes):

@@ -4,7 +4,7 @@
 const run = JSON.parse(document.getElementById("run").textContent);
 const pieceLength = 500;    // one scene in so many is whole; a piece is read when one of its scenes is wanted
 const most = run.count - 1;
-const stops = run.stops;    // page faults, failures and page-ins, by their numbers
+const stops = run.stops;    // page faults and failures, by their numbers
 const pieces = new Map();    // those that were read last
 const first = sceneAt(0);
 const hasHarts = Boolean(first.processes);    // whether the film tells of harts
@@ -176,9 +176,11 @@ function svgMake(name, options, ...children) {
 }
 
 // The name of an entry: beside it, or where there are many along a line from the middle, so that none covers another.
-function entryLabel(key, turn, size, isMany) {
+function entryLabel(key, turn, size, isMany, scale) {
   if (!isMany) {
-    const [x] = point(turn, 150);
+    const [x, y] = point(turn, 150);
+    const hasRoom = scale >= 0.8 || Math.abs(x - 210) <= 100;    // else its name stands below it
+    if (!hasRoom) return svgMake("text", { class: "label", x, y: y + size + 12 / scale }, pageName(key));
     const [lx, ly] = point(turn, 150 + size + 16 + Math.abs(x - 210) / 6);    // names are wider than high
     return svgMake("text", { class: "label", x: lx, y: ly }, pageName(key));
   }
@@ -189,13 +191,13 @@ function entryLabel(key, turn, size, isMany) {
     transform: "rotate(" + (isLeft ? degrees + 180 : degrees) + " " + lx + " " + ly + ")" }, pageName(key));
 }
 
-function node([key, kind], turn, size, isMany) {
+function node([key, kind], turn, size, isMany, scale) {
   const [x, y] = point(turn, 150);
   const group = svgMake("g", { class: kind });
   if (kind === "hot") group.append(svgMake("rect", { class: "shape", x: x - size, y: y - size, width: 2 * size, height: 2 * size }));
   else group.append(svgMake("circle", { class: "shape", cx: x, cy: y, r: size }));
   if (kind === "test") group.append(svgMake("circle", { class: "inner", cx: x, cy: y, r: size - 3 }));
-  group.append(svgMake("text", { class: "kind", x, y }, letters[kind]), entryLabel(key, turn, size, isMany));
+  group.append(svgMake("text", { class: "kind", x, y }, letters[kind]), entryLabel(key, turn, size, isMany, scale));
   return group;
 }
 
@@ -235,11 +237,13 @@ function showList(scene) {
   const scale = (ring.clientWidth || 464) / 520;
   ring.style.setProperty("--ring", Math.round(10 * 13.5 / scale) / 10 + "px");    // letters of 13 pixels at any width
   const size = entries.length <= 20 ? 17 : entries.length <= 40 ? 9 : 7;
-  ring.setAttribute("class", (isMany ? "many" : "") + (isMany || scale < 0.8 && entries.length > 8 ? " bare" : ""));
+  const isBare = isMany || scale < 0.8 && entries.length > 8;
+  const above = isBare ? 60 - size - 12 / scale : 44 - size - 18 / scale;    // above the first entry, and its name
+  ring.setAttribute("class", (isMany ? "many" : "") + (isBare ? " bare" : ""));
   ring.replaceChildren(tip(), svgMake("circle", { class: "circle", cx: 210, cy: 210, r: 150 }),
     ...hand(place(scene.cold), entries.length, "cold", ""), ...hand(place(scene.test), entries.length, "test", "testing"),
-    ...(entries.length ? [svgMake("text", { class: "hand", x: 210, y: isMany ? 88 : 12 }, isMany ? "hot hand \u25b4" : "hot hand \u25be")] : []),
-    ...entries.map((entry, k) => node(entry, k / entries.length, size, isMany)));
+    ...(entries.length ? [svgMake("text", { class: "hand", x: 210, y: above }, "hot hand \u25be")] : []),
+    ...entries.map((entry, k) => node(entry, k / entries.length, size, isMany, scale)));
 }
 
 function showOutputs(scene) {
@@ -465,10 +469,14 @@ function showTranslated(isAsked) {
 // A page fault: of a page that is in no frame, of one that the process does not have, or of a right that it lacks.
 function answerOfFault(address, fault) {
   const key = chosenProcess() + "/" + (address >>> 12);
-  const row = translatedScene().pages.find(([name]) => name === key);
-  const where = row && row[1] ? "The page is " + row[1] + (row[1] === "resident" ? ", and this access is not allowed: a trap." : ": it has to come in first.")
-    : "No event so far has named this page: it was not brought in yet, or the process has none here and the access would trap.";
-  return (fault === "page fault" ? "Page fault. " : "Access fault. ") + where;
+  const rows = [translatedScene(), sceneAt(at)].map(scene => scene.pages.find(([name]) => name === key));    // a first fault names its page
+  return (fault === "page fault" ? "Page fault. " : "Access fault. ") + whereItIs((rows.find(Boolean) || [])[1]);
+}
+
+function whereItIs(state) {
+  if (!state) return "No event so far has named this page: it was not brought in yet, or the process has none here and the access would trap.";
+  if (state === "purged") return "The process has ended; its pages were given back.";
+  return "The page is " + state + (state === "resident" ? ", and this access is not allowed: a trap." : ": it has to come in first.");
 }
 
 function showTree() {
@@ -553,17 +561,20 @@ function countedNow() {
   return addUses(new Map(countedTo[piece]), usesOfPiece(piece).slice(0, at % pieceLength + 1));
 }
 
-// The pages that each process used in its last instructions, and how many instructions these are.
-function workingSets(window, count) {
-  const found = Array.from({ length: count }, () => ({ pages: new Set(), steps: 0 }));
-  const oldest = Math.max(0, at - 20 * window - 2000);
-  for (let k = at; k > oldest && found.some(({ steps }) => steps < window); k--) {
-    const use = usesOfPiece(Math.floor(k / pieceLength))[k % pieceLength];
-    if (!use || found[use.process].steps >= window) continue;
-    found[use.process].steps++;
-    for (const page of use.pages) found[use.process].pages.add(page);
+// The pages that a process used in its last instructions. They may be long ago: pieces in which it ran none are passed over.
+function workingSet(window, process) {
+  const pages = new Set();
+  let steps = 0;
+  for (let piece = Math.floor(at / pieceLength); piece >= 0 && steps < window; piece--) {
+    if (!run.steps[process][piece]) continue;
+    const uses = usesOfPiece(piece);
+    for (let k = Math.min(pieceLength - 1, at - piece * pieceLength); k >= 0 && steps < window; k--) {
+      if (!uses[k] || uses[k].process !== process) continue;
+      steps++;
+      for (const page of uses[k].pages) pages.add(page);
+    }
   }
-  return found;
+  return pages;
 }
 
 function showSets(scene) {
@@ -571,7 +582,8 @@ function showSets(scene) {
   const window = Math.min(5000, Math.max(1, Math.floor(Number(by("window").value)) || 100));
   const pagesText = pages => pages.length + (pages.length ? ": " + pages.slice(0, 24).map(page => hex(page)).join(" ") + (pages.length > 24 ? " .." : "") : "");
   const rising = pages => [...pages].sort((a, b) => a - b);
-  by("sets").replaceChildren(...workingSets(window, scene.processes.length).map(({ pages }, number) => {
+  by("sets").replaceChildren(...scene.processes.map((_, number) => {
+    const pages = workingSet(window, number);
     const resident = rising(scene.pages.filter(([key, state]) => state === "resident" && Number(key.split("/")[0]) === number).map(([key]) => Number(key.split("/")[1])));
     const away = rising(pages).filter(page => !resident.includes(page));
     const of = ofProcess(number);
@@ -647,7 +659,7 @@ function show(number) {
     + " saves " + scene.saves + " drops " + scene.drops + " questions " + scene.questions;
 }
 
-// The next event from one on in a direction that a reader stops at: a page fault, a failure or a page-in; -1 where there is none.
+// The next event from one on in a direction that a reader stops at: a page fault or a failure; -1 where there is none.
 function stopFrom(from, direction) {
   let low = 0;
   for (let high = stops.length; low < high;) {

@@ -1,5 +1,5 @@
 //! The replacement policy over a ring in plain Rust: a slab of links, and an index from a page to its node in a flat array.
-//! Arguments as for `clock_bench`, without the first: frames, pages, references.
+//! Arguments as for `parts_bench clock`, without the first: frames, pages, references.
 
 use std::time::Instant;
 

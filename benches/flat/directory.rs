@@ -1,4 +1,4 @@
-//! A plain Rust interpreter of the same design as `paged flat`: pages behind a directory, words made into an enum first.
+//! A plain Rust interpreter: pages behind a directory, words made into an enum first.
 //!
 //! It decodes each word anew, matches on the decoded instruction, checks a page's rights for each
 //! access, and keeps no cache of decoded instructions.

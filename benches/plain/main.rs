@@ -47,7 +47,7 @@ fn debug<T: debug_core::Target>(name: &str, point: &str, target: T) {
         _ => {}
     }
     let begin = processor_time();
-    let (why, steps) = debugger.go(1_000_000_000).unwrap();
+    let (why, steps, _) = debugger.go(1_000_000_000).unwrap();
     println!("debug {name} {point} {why:?} steps {steps} seconds {:.3}", processor_time() - begin);
 }
 

@@ -1,15 +1,30 @@
 //! What the code of this repository takes of Rattle's library, in plain Rust, so that its speed without proofs can be measured.
 #![allow(dead_code, unused)]
 
+mod caches;
+pub mod clap;
+
+pub use caches::{indexmap, lru, rand_core, rand_pcg};
+
 pub mod prelude {
+    pub use crate::alloc::AllocGlobal;
     pub use crate::boxed::Box;
+    pub use crate::convert::AsStr;
+    pub use crate::iter::Collect;
     pub use crate::marker::Drop;
-    pub use crate::vec::Vec;
+    pub use crate::string::String;
+    pub use crate::vec::{ToVec, Vec};
 }
 
 pub mod alloc {
     #[derive(Clone, Copy, Debug)]
     pub struct Global;
+
+    pub trait AllocGlobal {
+        fn alloc(&self) -> Global {
+            Global
+        }
+    }
 
     #[derive(Clone, Copy, Debug, PartialEq, Eq)]
     pub struct AllocError;
@@ -17,6 +32,12 @@ pub mod alloc {
     #[derive(Clone, Copy, Debug)]
     pub struct AllocFailed<T> {
         pub value: T,
+    }
+
+    impl From<AllocError> for std::io::Error {
+        fn from(_: AllocError) -> std::io::Error {
+            std::io::Error::from(std::io::ErrorKind::OutOfMemory)
+        }
     }
 
     impl<T> From<AllocFailed<T>> for AllocError {
@@ -55,33 +76,65 @@ pub mod collections {
     use crate::alloc::{AllocError, Global};
     use std::hash::Hash;
 
-    pub struct HashMap<K, V>(std::collections::HashMap<K, V>);
+    /// A collection of the standard library whose room may be refused.
+    macro_rules! collection {
+        ($name:ident<$($of:ident),+>) => {
+            pub struct $name<$($of),+>(std::collections::$name<$($of),+>);
+
+            impl<$($of),+> $name<$($of),+> {
+                pub fn new(_: Global) -> Self {
+                    $name(std::collections::$name::new())
+                }
+            }
+
+            impl<$($of),+> std::ops::Deref for $name<$($of),+> {
+                type Target = std::collections::$name<$($of),+>;
+
+                fn deref(&self) -> &Self::Target {
+                    &self.0
+                }
+            }
+
+            impl<$($of),+> std::ops::DerefMut for $name<$($of),+> {
+                fn deref_mut(&mut self) -> &mut Self::Target {
+                    &mut self.0
+                }
+            }
+        };
+    }
+
+    macro_rules! map {
+        ($name:ident, $first:path $(, $more:path)*) => {
+            collection!($name<K, V>);
+
+            impl<K: $first $(+ $more)*, V> $name<K, V> {
+                pub fn insert(&mut self, key: K, value: V) -> Result<Option<V>, AllocError> {
+                    Ok(self.0.insert(key, value))
+                }
+            }
+        };
+    }
+
+    macro_rules! set {
+        ($name:ident, $first:path $(, $more:path)*) => {
+            collection!($name<T>);
+
+            impl<T: $first $(+ $more)*> $name<T> {
+                pub fn insert(&mut self, value: T) -> Result<bool, AllocError> {
+                    Ok(self.0.insert(value))
+                }
+            }
+        };
+    }
+
+    map!(HashMap, Hash, Eq);
+    map!(BTreeMap, Ord);
+    set!(HashSet, Hash, Eq);
+    set!(BTreeSet, Ord);
 
     impl<K: Hash + Eq, V> HashMap<K, V> {
-        pub fn new(_: Global) -> Self {
-            HashMap(std::collections::HashMap::new())
-        }
-
         pub fn with_capacity(_: Global, capacity: usize) -> Result<Self, AllocError> {
             Ok(HashMap(std::collections::HashMap::with_capacity(capacity)))
-        }
-
-        pub fn insert(&mut self, key: K, value: V) -> Result<Option<V>, AllocError> {
-            Ok(self.0.insert(key, value))
-        }
-    }
-
-    impl<K, V> std::ops::Deref for HashMap<K, V> {
-        type Target = std::collections::HashMap<K, V>;
-
-        fn deref(&self) -> &Self::Target {
-            &self.0
-        }
-    }
-
-    impl<K, V> std::ops::DerefMut for HashMap<K, V> {
-        fn deref_mut(&mut self) -> &mut Self::Target {
-            &mut self.0
         }
     }
 }
@@ -107,21 +160,320 @@ pub mod str {
     pub use std::str::*;
 }
 
+pub mod num {
+    pub use std::num::*;
+}
+
+pub mod process {
+    pub use std::process::*;
+
+    pub trait Abort {}
+}
+
+pub mod convert {
+    pub use std::convert::*;
+
+    pub trait AsStr {
+        fn as_str(&self) -> &str;
+    }
+
+    impl AsStr for &str {
+        fn as_str(&self) -> &str {
+            self
+        }
+    }
+
+    impl AsStr for crate::string::String {
+        fn as_str(&self) -> &str {
+            &self.0
+        }
+    }
+}
+
+pub mod string {
+    use crate::alloc::{AllocError, Global};
+    use crate::vec::Vec;
+
+    #[derive(Clone, Debug, PartialEq, Eq, PartialOrd, Ord, Hash)]
+    pub struct String(pub std::string::String);
+
+    impl String {
+        pub fn new(_: Global) -> Self {
+            String(std::string::String::new())
+        }
+
+        pub fn from_utf8(bytes: Vec<u8>) -> Result<Self, std::string::FromUtf8Error> {
+            std::string::String::from_utf8(bytes.0).map(String)
+        }
+
+        pub fn as_str(&self) -> &str {
+            &self.0
+        }
+
+        pub fn push(&mut self, letter: char) -> Result<(), AllocError> {
+            self.0.push(letter);
+            Ok(())
+        }
+    }
+
+    impl std::fmt::Write for String {
+        fn write_str(&mut self, text: &str) -> std::fmt::Result {
+            self.0.push_str(text);
+            Ok(())
+        }
+    }
+
+    impl std::ops::Deref for String {
+        type Target = str;
+
+        fn deref(&self) -> &str {
+            &self.0
+        }
+    }
+
+    impl std::fmt::Display for String {
+        fn fmt(&self, f: &mut std::fmt::Formatter<'_>) -> std::fmt::Result {
+            self.0.fmt(f)
+        }
+    }
+}
+
+#[macro_export]
+macro_rules! format_in {
+    ($alloc:expr; $($text:tt)*) => {
+        Ok::<_, $crate::alloc::AllocError>($crate::string::String(std::format!($($text)*)))
+    };
+}
+
+pub mod iter {
+    pub use std::iter::*;
+    use crate::alloc::{AllocError, Global};
+    use crate::vec::Vec;
+
+    /// `collect` with an allocator.
+    pub trait Collect: Iterator + Sized {
+        fn collect_in<C: From<Vec<Self::Item>>>(self, _: Global) -> Result<C, AllocError> {
+            Ok(Vec(Iterator::collect::<std::vec::Vec<Self::Item>>(self)).into())
+        }
+    }
+
+    impl<I: Iterator> Collect for I {}
+}
+
+pub mod env {
+    use crate::string::String;
+
+    pub trait Env {}
+
+    /// The words of the command line, which have to be text.
+    pub fn args<R: Env>(_: &R) -> std::io::Result<std::vec::IntoIter<String>> {
+        let words: Option<Vec<_>> = std::env::args_os().map(|word| word.into_string().ok().map(String)).collect();
+        let wrong = || std::io::Error::from(std::io::ErrorKind::InvalidData);
+        words.map(Vec::into_iter).ok_or_else(wrong)
+    }
+}
+
+pub mod rt {
+    /// Who may open files.
+    pub trait Files {
+        type File: std::io::Read + std::io::Write + std::io::Seek + crate::fs::OpenFile;
+    }
+}
+
+pub mod os {
+    pub mod unix {
+        pub mod fs {
+            pub use std::os::unix::fs::FileTypeExt;
+        }
+    }
+}
+
+pub mod fs {
+    use crate::rt::Files;
+    pub use std::fs::{File as SystemFile, Metadata};
+    use std::io::Result;
+
+    pub trait OpenFile: Sized {
+        fn opened(file: SystemFile) -> Self;
+
+        fn metadata(&self) -> Result<Metadata>;
+    }
+
+    impl OpenFile for SystemFile {
+        fn opened(file: SystemFile) -> Self {
+            file
+        }
+
+        fn metadata(&self) -> Result<Metadata> {
+            SystemFile::metadata(self)
+        }
+    }
+
+    pub fn open<R: Files>(_: &R, name: &str) -> Result<R::File> {
+        SystemFile::open(name).map(R::File::opened)
+    }
+
+    pub fn symlink_metadata<R: Files>(_: &R, name: &str) -> Result<Metadata> {
+        std::fs::symlink_metadata(name)
+    }
+
+    pub fn remove_file<R: Files>(_: &R, name: &str) -> Result<()> {
+        std::fs::remove_file(name)
+    }
+
+    pub fn write<R: Files>(_: &R, name: &str, bytes: &[u8]) -> Result<()> {
+        std::fs::write(name, bytes)
+    }
+
+    pub struct File;
+
+    impl File {
+        pub fn create_new<R: Files>(_: &R, name: &str) -> Result<R::File> {
+            SystemFile::create_new(name).map(R::File::opened)
+        }
+    }
+
+    pub struct OpenOptions(std::fs::OpenOptions);
+
+    impl OpenOptions {
+        pub fn new() -> Self {
+            OpenOptions(std::fs::OpenOptions::new())
+        }
+
+        pub fn read(mut self, is_so: bool) -> Self {
+            self.0.read(is_so);
+            self
+        }
+
+        pub fn write(mut self, is_so: bool) -> Self {
+            self.0.write(is_so);
+            self
+        }
+
+        pub fn create(mut self, is_so: bool) -> Self {
+            self.0.create(is_so);
+            self
+        }
+
+        pub fn truncate(mut self, is_so: bool) -> Self {
+            self.0.truncate(is_so);
+            self
+        }
+
+        pub fn open<R: Files>(&self, _: &R, name: &str) -> Result<R::File> {
+            self.0.open(name).map(R::File::opened)
+        }
+    }
+}
+
+/// The system, as a program's `main` is given it.
+pub mod host {
+    use crate::sync::Host;
+
+    /// What a program begins with: every run says what it is, unless who called it has.
+    pub fn begin() -> Host {
+        if std::env::var_os("PAGED_UNPROVED").is_none_or(|it| it != "told") {
+            eprintln!("unproved: what this prints was made of the sources without their proofs");
+        }
+        Host
+    }
+
+    /// One of the three streams as the system has it: Rust's own take a closed one for one that takes all.
+    pub fn stream(number: i32) -> &'static std::fs::File {
+        use std::os::fd::FromRawFd;
+        Box::leak(Box::new(unsafe { std::fs::File::from_raw_fd(number) }))
+    }
+
+    impl Host {
+        pub fn stdin(&self) -> &'static std::fs::File {
+            stream(0)
+        }
+
+        pub fn stderr(&self) -> &'static std::fs::File {
+            stream(2)
+        }
+    }
+
+    impl crate::alloc::AllocGlobal for Host {}
+
+    impl crate::env::Env for Host {}
+
+    impl crate::io::Print for Host {}
+
+    impl crate::rt::Files for Host {
+        type File = std::fs::File;
+    }
+}
+
 pub mod io {
+    use crate::alloc::{AllocError, Global};
     pub use std::io::*;
+    use std::marker::PhantomData;
 
     /// A reader whose room may be refused.
     pub struct BufReader<R>(std::io::BufReader<R>);
 
     impl<R: Read> BufReader<R> {
-        pub fn new(_: crate::alloc::Global, inner: R) -> core::result::Result<Self, crate::alloc::AllocError> {
+        pub fn new(_: Global, inner: R) -> core::result::Result<Self, AllocError> {
             Ok(BufReader(std::io::BufReader::new(inner)))
+        }
+
+        pub fn with_capacity(_: Global, capacity: usize, inner: R) -> core::result::Result<Self, AllocError> {
+            Ok(BufReader(std::io::BufReader::with_capacity(capacity, inner)))
         }
     }
 
     impl<R: Read> Read for BufReader<R> {
         fn read(&mut self, bytes: &mut [u8]) -> Result<usize> {
             self.0.read(bytes)
+        }
+    }
+
+    impl<R: Read> BufRead for BufReader<R> {
+        fn fill_buf(&mut self) -> Result<&[u8]> {
+            self.0.fill_buf()
+        }
+
+        fn consume(&mut self, count: usize) {
+            self.0.consume(count)
+        }
+    }
+
+    /// A writer whose room may be refused.
+    pub struct BufWriter<W: Write>(std::io::BufWriter<W>);
+
+    impl<W: Write> BufWriter<W> {
+        pub fn new(_: Global, inner: W) -> core::result::Result<Self, AllocError> {
+            Ok(BufWriter(std::io::BufWriter::new(inner)))
+        }
+    }
+
+    impl<W: Write> Write for BufWriter<W> {
+        fn write(&mut self, bytes: &[u8]) -> Result<usize> {
+            self.0.write(bytes)
+        }
+
+        fn flush(&mut self) -> Result<()> {
+            self.0.flush()
+        }
+    }
+
+    pub trait Print {}
+
+    pub struct Printer<'r, R>(&'static std::fs::File, PhantomData<&'r R>);
+
+    /// Standard output, which hands on at once what it is given.
+    pub fn writer<R: Print>(_: &R) -> Printer<'_, R> {
+        Printer(crate::host::stream(1), PhantomData)
+    }
+
+    impl<R> Write for Printer<'_, R> {
+        fn write(&mut self, bytes: &[u8]) -> Result<usize> {
+            self.0.write(bytes)
+        }
+
+        fn flush(&mut self) -> Result<()> {
+            Ok(())
         }
     }
 }
@@ -441,9 +793,27 @@ pub mod vec {
         }
     }
 
+    pub trait ToVec<T> {
+        fn to_vec_in(&self, _: Global) -> Result<Vec<T>, AllocError>;
+    }
+
+    impl<T: Clone> ToVec<T> for [T] {
+        fn to_vec_in(&self, _: Global) -> Result<Vec<T>, AllocError> {
+            Ok(Vec(self.to_vec()))
+        }
+    }
+
     impl<T: Clone> Vec<T> {
+        pub fn clone(&self) -> Result<Self, AllocError> {
+            Ok(Vec(self.0.clone()))
+        }
+
         pub fn from_slice(_: Global, slice: &[T]) -> Result<Self, AllocError> {
             Ok(Vec(slice.to_vec()))
+        }
+
+        pub fn from_elem(_: Global, value: T, count: usize) -> Result<Self, AllocError> {
+            Ok(Vec(vec![value; count]))
         }
 
         pub fn resize(&mut self, length: usize, value: T) -> Result<(), AllocError> {
@@ -547,6 +917,10 @@ mod boxed {
         pub fn new(_: Global, value: T) -> Result<Self, AllocFailed<T>> {
             Ok(Box(std::boxed::Box::new(value)))
         }
+
+        pub fn into_inner(this: Self) -> T {
+            *this.0
+        }
     }
 
     impl<T: ?Sized> Deref for Box<T> {
@@ -641,12 +1015,15 @@ pub mod bitflags {
 }
 
 pub mod byteorder {
+    pub use crate::numbers_out::WriteBytesExt;
+
     /// The machine is little-endian; lengths are not tested.
     pub struct LittleEndian;
 
     pub trait ByteOrder {
         fn read_u16(bytes: &[u8]) -> u16;
         fn read_u32(bytes: &[u8]) -> u32;
+        fn read_u64(bytes: &[u8]) -> u64;
         fn write_u16(bytes: &mut [u8], number: u16);
         fn write_u32(bytes: &mut [u8], number: u32);
     }
@@ -663,6 +1040,11 @@ pub mod byteorder {
         }
 
         #[inline(always)]
+        fn read_u64(bytes: &[u8]) -> u64 {
+            unsafe { bytes.as_ptr().cast::<u64>().read_unaligned() }
+        }
+
+        #[inline(always)]
         fn write_u16(bytes: &mut [u8], number: u16) {
             unsafe { bytes.as_mut_ptr().cast::<u16>().write_unaligned(number) }
         }
@@ -672,6 +1054,21 @@ pub mod byteorder {
             unsafe { bytes.as_mut_ptr().cast::<u32>().write_unaligned(number) }
         }
     }
+}
+
+pub mod numbers_out {
+    /// Numbers into a writer; the machine is little-endian.
+    pub trait WriteBytesExt: std::io::Write {
+        fn write_u32<B: super::byteorder::ByteOrder>(&mut self, number: u32) -> std::io::Result<()> {
+            self.write_all(&number.to_le_bytes())
+        }
+
+        fn write_u64<B: super::byteorder::ByteOrder>(&mut self, number: u64) -> std::io::Result<()> {
+            self.write_all(&number.to_le_bytes())
+        }
+    }
+
+    impl<W: std::io::Write + ?Sized> WriteBytesExt for W {}
 }
 
 pub mod arrayvec {

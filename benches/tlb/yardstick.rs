@@ -1,4 +1,4 @@
-//! The look-ups of crates/tlb_bench in plain Rust: the yardstick of this benchmark.
+//! The look-ups of crates/parts_bench in plain Rust: the yardstick of this benchmark.
 use std::time::Instant;
 
 #[derive(Clone, Copy)]

@@ -1,4 +1,4 @@
-//! The walks of crates/walk_bench in plain Rust: the yardstick of this benchmark.
+//! The walks of crates/parts_bench in plain Rust: the yardstick of this benchmark.
 use std::time::Instant;
 
 #[derive(Clone, Copy)]

@@ -1,12 +1,12 @@
 """The films that the program `show_run` writes: a line of JSON for the head, one for each scene, and one for what was written."""
 import json
-import os
 import re
 import subprocess
 import sys
 import time
 
-TOP = os.path.dirname(os.path.dirname(os.path.dirname(os.path.realpath(__file__))))
+from first_build import build_first, command
+
 SCENES_OF_A_PIECE = 500    # one scene in so many is whole, as the program writes them
 MOST_EVENTS = 200000
 SCENE = re.compile(r'\{"event":(?:null|"([^"]*)"),"reply":(?:null|"([^"]*)")')
@@ -20,15 +20,13 @@ class FilmFault(Exception):
         self.status = status
 
 
-def program():
-    """The program that reads the machine; in an archive it stands in bin/."""
-    packed = f"{TOP}/bin/show_run"
-    if os.access(packed, os.X_OK):
-        return packed
-    if subprocess.run([f"{TOP}/build/is-built", "show_run"], check=False).returncode:
-        if subprocess.run([f"{TOP}/build/program", "show_run"], stdout=sys.stderr, check=False).returncode:
-            raise FilmFault("")
-    return f"{TOP}/crates/show_run/out/show_run"
+def film_command():
+    """How the program is called that reads the machine."""
+    try:
+        build_first("show_run")
+    except SystemExit:
+        raise FilmFault("") from None
+    return command("show_run")
 
 
 class Progress:
@@ -55,7 +53,7 @@ class Film:
         self.lines, self.events, self.head, self.outputs = [], [], None, None
         progress = Progress()
         # a slot's file that takes no more is a failed save, and no signal that ends the program
-        with subprocess.Popen([program(), *words], stdout=subprocess.PIPE, stderr=said, text=True, encoding="ascii", restore_signals=False) as run:
+        with subprocess.Popen([*film_command(), *words], stdout=subprocess.PIPE, stderr=said, text=True, encoding="ascii", restore_signals=False) as run:
             try:
                 self.read(run.stdout, progress)
             except BaseException:

@@ -11,12 +11,14 @@ use Rattle.asm_statements.specs.declared.part.CodePart.{CodePart}
 use Rattle.asm_statements.specs.declared.part.CodePart.TheVariants as code
 use Rattle.asm_statements.specs.declared.section.Section.TheVariants.{Text, Data}
 use Rattle.asm_statements.specs.Effects.{StatementEffect, Text as TextEffect}
-use Rattle.asm_statements.specs.Names.{named}
-use Rattle.asm_statements.specs.Registers.{register_of}
-use Rattle.asm_statements.specs.Shapes.{register_operand, number_operand, label, indexed, zip_three, one_register, two_registers, two_registers_number, register_indexed, one_label, register_label, two_registers_label}
-use Rattle.asm_statements.specs.Ranges.{within}
+use Rattle.asm_values.specs.Names.{named}
+use Rattle.asm_values.specs.Registers.{register_of}
+use Rattle.asm_values.specs.Operands.{number_operand}
+use Rattle.asm_statements.specs.Shapes.{register_operand, label, indexed, zip_three, one_register, two_registers, two_registers_number, register_indexed, one_label, register_label, two_registers_label}
+use Rattle.asm_values.specs.Ranges.{within}
 use Rattle.asm_statements.specs.Mnemonics.{mnemonic_of}
-use Rattle.asm_statements.specs.Instructions.{given, map_ok, code_of, alone, op_immediate, copied, jalr, jal, jump, jump_register, branch, branch_zero}
+use Rattle.asm_values.specs.Answers.{given, map_ok}
+use Rattle.asm_statements.specs.Instructions.{code_of, alone, op_immediate, copied, jalr, jal, jump, jump_register, branch, branch_zero}
 use Rattle.asm_statements.specs.Statements.{statement_effect, statement_of, meaning, in_text, in_data}
 use Rattle.asm_statements.specs.SameStatements.{DoesTheSame}
 

@@ -1,7 +1,7 @@
 -- What a statement does, as a plain value.
 use Rattle.std.specs.Prelude.{List}
 use Rattle.asm_statements.specs.declared.part.CodePart.{CodePart}
-use Rattle.asm_statements.specs.declared.part.Datum.{Datum}
+use Rattle.asm_values.specs.declared.datum.Datum.{Datum}
 use Rattle.asm_statements.specs.declared.part.Effect.{Effect as EffectCode}
 use Rattle.asm_statements.specs.declared.part.Effect.TheVariants.{Enter as EnterCode, Text as TextCode, Data as DataCode}
 use Rattle.asm_statements.specs.declared.section.Section.{Section}

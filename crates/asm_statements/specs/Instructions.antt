@@ -1,6 +1,6 @@
 -- What a statement of the text puts there, by its operands.
 -- Source: unprivileged manual, "RV32/64G Instruction Set Listings"; assembly programmer's manual, "Pseudoinstructions".
-use Rattle.std.specs.Prelude.{ℕ, Bool, ℤ, pos, negsuc, List, [], ◌∷◌, Option, Some, None, Result, Ok, Err, is_ok, if◌then◌else◌}
+use Rattle.std.specs.Prelude.{ℕ, Bool, ℤ, pos, negsuc, List, [], ◌∷◌, Result, Ok, Err, is_ok, if◌then◌else◌}
 use Rattle.std.specs.Int.{w32}
 use Rattle.rv_isa.specs.declared.kinds.OpKind.{OpKind}
 use Rattle.rv_isa.specs.declared.kinds.ImmediateKind.{ImmediateKind}
@@ -21,18 +21,10 @@ use Rattle.asm_lines.specs.declared.fault.FaultKind.{FaultKind}
 use Rattle.asm_lines.specs.declared.fault.FaultKind.TheVariants.{Operand as BadOperand}
 use Rattle.asm_statements.specs.declared.mnemonic.Mnemonic.{Mnemonic}
 use Rattle.asm_statements.specs.declared.mnemonic.Mnemonic.TheVariants.{Op, OpImmediate, Shift, Load, Store, Branch, Lui, Auipc, Jal, Jalr, Fence, Ecall, Ebreak, Amo, Reservation, Nop, LoadAddress, Move, Jump, Call, JumpRegister, Return, BranchZero}
-use Rattle.asm_statements.specs.Ranges.{within, up_to, bits_within}
+use Rattle.asm_values.specs.Answers.{given, map_ok}
+use Rattle.asm_values.specs.Ranges.{within, up_to, bits_within}
 use Rattle.asm_statements.specs.Shapes.{one_register, two_registers, three_registers, two_registers_number, register_number, number_two_registers, register_indexed, register_indirect, two_registers_indirect, one_label, register_label, two_registers_label}
 use Rattle.rv_isa.specs.Split.{low_part, high_part}
-
--- what comes of the operands, where they have their shape
-abbrev pub given : {A B : Type 0} → Option A → (A → Result B FaultKind) → Result B FaultKind
-given None meaning = Err BadOperand
-given (Some operands) meaning = meaning operands
-
-abbrev pub map_ok : {A B : Type 0} → (A → B) → Result A FaultKind → Result B FaultKind
-map_ok f (Ok x) = Ok (f x)
-map_ok f (Err fault) = Err fault
 
 -- ---- instructions
 

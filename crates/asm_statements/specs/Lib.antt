@@ -1,13 +1,8 @@
-pub mod Directives
 pub mod Effects
-pub mod Escapes
 pub mod Instructions
+pub mod Lists
 pub mod Mnemonics
-pub mod Names
 pub mod Parts
-pub mod RangeLaws
-pub mod Ranges
-pub mod Registers
 pub mod SameStatements
 pub mod Shapes
 pub mod Statements

@@ -2,9 +2,10 @@
 -- register's name is unknown. A place for a label takes any name.
 use Rattle.std.specs.Prelude.{ℕ, ℤ, List, [], ◌∷◌, Option, Some, None, option_map}
 use Rattle.std.specs.Option.{option_zip}
-use Rattle.asm_statements.specs.Registers.{register_of}
+use Rattle.asm_values.specs.Registers.{register_of}
+use Rattle.asm_values.specs.Operands.{number_operand}
 use Rattle.asm_lines.specs.declared.operand.Operand.{Operand}
-use Rattle.asm_lines.specs.declared.operand.Operand.TheVariants.{Number, Name, Text, Indexed, Indirect}
+use Rattle.asm_lines.specs.declared.operand.Operand.TheVariants.{Name, Indexed, Indirect}
 
 -- ---- one operand
 
@@ -12,17 +13,9 @@ unfoldable pub register_operand : Operand → Option ℕ
 register_operand (Name name) = register_of name
 register_operand _ = None
 
-unfoldable pub number_operand : Operand → Option ℤ
-number_operand (Number n) = Some n
-number_operand _ = None
-
 unfoldable pub label : Operand → Option (List ℕ)
 label (Name name) = Some name
 label _ = None
-
-unfoldable pub text : Operand → Option (List ℕ)
-text (Text characters) = Some characters
-text _ = None
 
 -- `n(rs1)`
 unfoldable pub indexed : Operand → Option (ℤ × ℕ)
@@ -84,16 +77,6 @@ register_indirect _ = None
 unfoldable pub two_registers_indirect : List Operand → Option (ℕ × ℕ × ℕ)
 two_registers_indirect (a ∷ b ∷ c ∷ []) = zip_three (register_operand a) (register_operand b) (indirect c)
 two_registers_indirect _ = None
-
--- `n`
-unfoldable pub one_number : List Operand → Option ℤ
-one_number (a ∷ []) = number_operand a
-one_number _ = None
-
--- `"text"`, with its escapes
-unfoldable pub one_text : List Operand → Option (List ℕ)
-one_text (a ∷ []) = text a
-one_text _ = None
 
 -- `label`
 unfoldable pub one_label : List Operand → Option (List ℕ)

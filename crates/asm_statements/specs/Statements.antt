@@ -9,13 +9,15 @@ use Rattle.asm_statements.specs.declared.section.Section.{Section}
 use Rattle.asm_statements.specs.declared.section.Section.TheVariants as section
 use Rattle.asm_lines.specs.declared.fault.FaultKind.{FaultKind}
 use Rattle.asm_lines.specs.declared.fault.FaultKind.TheVariants.{UnknownName, Operand as BadOperand}
-use Rattle.asm_statements.specs.declared.data.Size.TheVariants.{Word, Half, Byte}
+use Rattle.asm_values.specs.declared.data.Size.TheVariants.{Word, Half, Byte}
 use Rattle.asm_statements.specs.declared.statement.Statement.{Statement}
 use Rattle.asm_statements.specs.declared.statement.Statement.TheVariants as statement
-use Rattle.asm_statements.specs.Names.{named}
+use Rattle.asm_values.specs.Names.{named}
 use Rattle.asm_statements.specs.Mnemonics.{mnemonic_of}
-use Rattle.asm_statements.specs.Instructions.{map_ok, code_of, load_immediate}
-use Rattle.asm_statements.specs.Directives.{values, text_word, data_value, ascii, space}
+use Rattle.asm_values.specs.Answers.{map_ok}
+use Rattle.asm_statements.specs.Instructions.{code_of, load_immediate}
+use Rattle.asm_values.specs.Directives.{values, data_value, ascii, space}
+use Rattle.asm_statements.specs.Lists.{text_word}
 
 -- the directives, and the one instruction that may be two
 abbrev pub directives : List (List ℕ × Statement)

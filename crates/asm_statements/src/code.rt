@@ -1,7 +1,8 @@
 //! What each instruction or pseudo-instruction except `li` puts into the text, by its mnemonic.
 
 ghost use Rattle.std.specs.Prelude.{◌≡◌};
-ghost use Rattle.asm_statements.specs.Instructions.{code_of, map_ok};
+ghost use Rattle.asm_values.specs.Answers.{map_ok};
+ghost use Rattle.asm_statements.specs.Instructions.{code_of};
 ghost use Rattle.asm_statements.specs.declared.part.CodePart.TheVariants.{Fixed};
 
 use crate::instructions::{

@@ -6,9 +6,10 @@ ghost use Rattle.asm_statements.specs.Instructions.{constant, load_immediate};
 
 use crate::instructions::add_immediate;
 use crate::part::CodePart;
-use crate::ranges::{immediate, word};
+use crate::ranges::immediate;
 use crate::shapes::register_number;
 use asm_lines::{FaultKind, LineRefusal, Operand};
+use asm_values::word;
 use rv_isa::{Insn, Reg, high_part, low_part};
 use std::alloc::{AllocError, Global};
 

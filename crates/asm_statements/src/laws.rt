@@ -4,15 +4,13 @@ ghost use Rattle.std.specs.Prelude.{◌≡◌, ℕ, ◌+◌, ◌*◌, ◌%◌, �
 ghost use Rattle.std.specs.Int.{w32, cast_unsigned};
 ghost use Rattle.rv_isa.specs.Operands.{IsImmediate};
 ghost use Rattle.rv_isa.specs.Split.{low_part, high_part};
-ghost use Rattle.asm_statements.specs.Ranges.{bits_within};
+ghost use Rattle.asm_values.specs.Ranges.{bits_within};
 ghost use Rattle.asm_lines.specs.declared.operand.Operand.TheVariants.{Number, Name, Indexed};
 ghost use Rattle.asm_statements.specs.SameStatements.{DoesTheSame};
-ghost use Rattle.asm_statements.specs.Escapes.{ReadsEscapes};
-ghost use Rattle.asm_statements.specs.Directives.{unescaped};
 
 /// What `li` and `la` load: `lui` of the high part and `addi` of the low part, which fits, leave the word, and the word of
 /// a number that `li` takes is the number modulo 2^32.
-#[tactic(auto, using(rv_isa::specs::SplitLaws::parts_make_word, crate::specs::RangeLaws::word_is_number))]
+#[tactic(auto, using(rv_isa::specs::SplitLaws::parts_make_word, asm_values::specs::RangeLaws::word_is_number))]
 pub fn loaded_word()
     ensures parts { (word : ℕ) → word < 2 ^ 32
         → (high_part word * 4096 + cast_unsigned w32 (low_part word)) % 2 ^ 32 ≡ word }
@@ -41,10 +39,4 @@ pub fn pseudo_instructions_are_instructions()
         (codes "beq") (Name rs1 ∷ Name (codes "zero") ∷ Name target ∷ []) }
     ensures bnez { (rs1 target : List ℕ) → DoesTheSame (codes "bnez") (Name rs1 ∷ Name target ∷ [])
         (codes "bne") (Name rs1 ∷ Name (codes "zero") ∷ Name target ∷ []) }
-{}
-
-/// What stands between quotes is read to the bytes for which it stands.
-#[tactic(auto, using(crate::proofs::EscapeLaws::text_reads))]
-pub fn escapes_stand_for_their_bytes()
-    ensures { (text bytes : List ℕ) → ReadsEscapes text bytes → unescaped text ≡ bytes }
 {}

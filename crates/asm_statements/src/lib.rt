@@ -6,12 +6,11 @@
 
 mod code;
 mod constant;
-mod data;
 mod instructions;
 mod labelled;
 mod laws;
+mod lists;
 mod mnemonic;
-mod names;
 mod part;
 mod ranges;
 mod registers;
@@ -19,9 +18,8 @@ mod section;
 mod shapes;
 mod statement;
 mod statements;
-mod text;
 
-pub use laws::{escapes_stand_for_their_bytes, loaded_word, pseudo_instructions_are_instructions};
-pub use part::{CodePart, Datum, Effect};
+pub use laws::{loaded_word, pseudo_instructions_are_instructions};
+pub use part::{CodePart, Effect};
 pub use section::Section;
 pub use statements::read_statement;

@@ -2,16 +2,16 @@
 
 ghost use Rattle.std.specs.Prelude.{◌≡◌, ◌<◌, length, IfSome};
 ghost use Rattle.std.specs.List.{position, before_first, after_first};
-ghost use Rattle.asm_statements.specs.Names.{named};
+ghost use Rattle.asm_values.specs.Names.{named};
 ghost use Rattle.asm_statements.specs.Mnemonics.{mnemonics, amo_names, orderings, is_point, reservation_names, amo_mnemonic, reservation_mnemonic, mnemonic_of};
 
-use crate::names::look_up;
+use asm_values::look_up;
 use rv_isa::{
     AmoKind, BranchKind, ImmediateKind, LoadKind, OpKind, ReservationKind, ShiftKind, StoreKind,
 };
 
 /// What a statement of the text is, by its name: instructions by their shapes, then pseudo-instructions.
-#[derive(Clone, Copy, Debug, PartialEq, Eq)]
+#[derive(Clone, Copy)]
 pub enum Mnemonic {
     /// `add rd, rs1, rs2`.
     Op(OpKind),

@@ -1,10 +1,11 @@
-//! What a statement puts into text or data while labels are still names, and its length in bytes.
+//! What a statement puts into the text while labels are still names, and its length in bytes; what a statement does.
 
 ghost use Rattle.std.specs.Prelude.{◌≡◌};
-ghost use Rattle.asm_statements.specs.Parts.{code_length, datum_length};
+ghost use Rattle.asm_statements.specs.Parts.{code_length};
 
 use crate::section::Section;
 use asm_lines::Span;
+use asm_values::Datum;
 use rv_isa::{BranchKind, Insn, Reg};
 
 /// What a statement puts into the text, once pseudo-instructions are gone: one word, or two for an address.
@@ -35,21 +36,6 @@ pub enum CodePart<'a> {
     Address(Span<'a>),
 }
 
-/// What a statement puts into the data.
-#[derive(Drop)]
-pub enum Datum<'a> {
-    /// A word that is a number.
-    Word(u32),
-    /// A word that is a label's address.
-    Pointer(Span<'a>),
-    /// Two bytes.
-    Half(u16),
-    /// One byte.
-    Byte(u8),
-    /// A number of zero bytes.
-    Zeros(u32),
-}
-
 /// What a statement does.
 #[derive(Drop)]
 pub enum Effect<'a> {
@@ -69,20 +55,6 @@ impl<'a> CodePart<'a> {
         match self {
             CodePart::LoadAddress { .. } => 8,
             _ => 4,
-        }
-    }
-}
-
-impl<'a> Datum<'a> {
-    /// How many bytes of data the part takes.
-    pub fn length(&self) -> u32
-        ensures { result ≡ datum_length self.now }
-    {
-        match self {
-            Datum::Word(_) | Datum::Pointer(_) => 4,
-            Datum::Half(_) => 2,
-            Datum::Byte(_) => 1,
-            Datum::Zeros(count) => *count,
         }
     }
 }

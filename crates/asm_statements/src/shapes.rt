@@ -1,11 +1,12 @@
 //! The operands of statements, by their shapes.
-#![tactic(auto, unfolding(crate::specs::Shapes::register_operand, crate::specs::Shapes::number_operand, crate::specs::Shapes::label, crate::specs::Shapes::text, crate::specs::Shapes::indexed, crate::specs::Shapes::indirect))]
+#![tactic(auto, unfolding(crate::specs::Shapes::register_operand, asm_values::specs::Operands::number_operand, crate::specs::Shapes::label, crate::specs::Shapes::indexed, crate::specs::Shapes::indirect))]
 
 ghost use Rattle.std.specs.Prelude.{◌≡◌};
 ghost use Rattle.asm_statements.specs.Shapes as shape;
 
 use crate::registers::read_register;
 use asm_lines::{Operand, Span};
+use asm_values::number;
 use rv_isa::Reg;
 
 fn register(operand: &Operand) -> Option<Reg>
@@ -17,29 +18,11 @@ fn register(operand: &Operand) -> Option<Reg>
     }
 }
 
-fn number(operand: &Operand) -> Option<i64>
-    ensures { result ≡ shape.number_operand operand.now }
-{
-    match operand {
-        Operand::Number(number) => Some(*number),
-        _ => None,
-    }
-}
-
 fn label<'a>(operand: &Operand<'a>) -> Option<Span<'a>>
     ensures { result ≡ shape.label operand.now }
 {
     match operand {
         Operand::Name(name) => Some(name.again()),
-        _ => None,
-    }
-}
-
-fn text<'a>(operand: &Operand<'a>) -> Option<Span<'a>>
-    ensures { result ≡ shape.text operand.now }
-{
-    match operand {
-        Operand::Text(text) => Some(text.again()),
         _ => None,
     }
 }
@@ -150,24 +133,6 @@ pub(crate) fn two_registers_indirect(operands: &[Operand]) -> Option<(Reg, Reg, 
         return None
     };
     Some((register(rd)?, register(rs2)?, indirect(place)?))
-}
-
-/// `n`.
-#[tactic(auto, unfolding(crate::specs::Shapes::one_number))]
-pub(crate) fn one_number(operands: &[Operand]) -> Option<i64>
-    ensures { result ≡ shape.one_number operands.now }
-{
-    let [n] = operands else { return None };
-    number(n)
-}
-
-/// `"text"`, with its escapes.
-#[tactic(auto, unfolding(crate::specs::Shapes::one_text))]
-pub(crate) fn one_text<'a>(operands: &[Operand<'a>]) -> Option<Span<'a>>
-    ensures { result ≡ shape.one_text operands.now }
-{
-    let [characters] = operands else { return None };
-    text(characters)
 }
 
 /// `label`.

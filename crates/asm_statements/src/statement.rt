@@ -3,16 +3,15 @@
 ghost use Rattle.std.specs.Prelude.{◌≡◌, option_map};
 ghost use Rattle.asm_statements.specs.Mnemonics.{mnemonic_of};
 ghost use Rattle.asm_statements.specs.declared.statement.Statement.TheVariants.{Code};
-ghost use Rattle.asm_statements.specs.Names.{named};
+ghost use Rattle.asm_values.specs.Names.{named};
 ghost use Rattle.asm_statements.specs.Statements.{directives, statement_of};
 
-use crate::data::Size;
 use crate::mnemonic::{Mnemonic, read_mnemonic};
-use crate::names::look_up;
 use crate::section::Section;
+use asm_values::{Size, look_up};
 
 /// What a statement is, by its name.
-#[derive(Clone, Copy, Debug, PartialEq, Eq)]
+#[derive(Clone, Copy)]
 pub enum Statement {
     /// `.text` and `.data`.
     Enter(Section),

@@ -7,12 +7,12 @@ ghost use Rattle.asm_statements.specs.Statements as spec;
 
 use crate::code::read_code;
 use crate::constant::read_constant;
-use crate::data::{Size, data_values, text_values};
+use crate::lists::text_values;
 use crate::part::Effect;
 use crate::section::Section;
 use crate::statement::{Statement, read_name};
-use crate::text::{ascii, space};
 use asm_lines::{FaultKind, LineRefusal, Operand};
+use asm_values::{Size, ascii, data_values, space};
 use std::alloc::{AllocError, Global};
 
 /// What a statement does in a section, by its name and its operands.
@@ -51,8 +51,8 @@ fn in_text<'a>(
 {
     match statement {
         Statement::Enter(into) => enter(into, operands),
-        Statement::Values(Size::Word) => Ok(Effect::Text(text_values(alloc, operands)?)),
-        Statement::LoadImmediate => Ok(Effect::Text(read_constant(alloc, operands)?)),
+        Statement::Values(Size::Word) => text_values(alloc, operands).map(Effect::Text),
+        Statement::LoadImmediate => read_constant(alloc, operands).map(Effect::Text),
         Statement::Code(mnemonic) => {
             let code = read_code(mnemonic, operands).map_err(LineRefusal::Fault)?;
             Ok(Effect::Text(vec![in alloc; code].map_err(AllocError::from)?))
@@ -74,8 +74,8 @@ fn in_data<'a>(
 {
     match statement {
         Statement::Enter(into) => enter(into, operands),
-        Statement::Values(size) => Ok(Effect::Data(data_values(alloc, size, operands)?)),
-        Statement::Ascii => Ok(Effect::Data(ascii(alloc, operands)?)),
+        Statement::Values(size) => data_values(alloc, size, operands).map(Effect::Data),
+        Statement::Ascii => ascii(alloc, operands).map(Effect::Data),
         Statement::Space => {
             let zeros = space(operands).map_err(LineRefusal::Fault)?;
             Ok(Effect::Data(vec![in alloc; zeros].map_err(AllocError::from)?))

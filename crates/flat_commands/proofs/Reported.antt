@@ -1,6 +1,6 @@
 -- What a run on flat memory is told to have come to, by what its parts say.
 use Rattle.std.proofs.Common.{◌≡◌, ℕ, ◌≤◌, ◌<◌, List, Option, IsSome, sym, ap, ◌∙◌, subst}
-use Rattle.std.specs.Prelude.{Some, option_map}
+use Rattle.std.specs.Prelude.{Some, option_map, Result, Ok, Err, IfOk, OnOk}
 use Rattle.std.specs.Io.KnownBytes.{Appends}
 use Rattle.command_line.specs.declared.request.FlatRequest.{FlatRequest}
 use Rattle.elf_image.specs.Image.{ImageContent}
@@ -33,3 +33,9 @@ flat_asked gives request out out' image input limit steps status old new output 
       told = subst (λ e. Appends out out' (process_text 0 new.environment.output e steps)) end (subst (λ o. Appends out out' (process_text 0 o ending steps)) output_is written);
       status_is = status_is ∙ ap exit_status end;
     }
+
+-- what holds of an answer follows where there is one
+pub where_ok : {E : Type 0} (said : Type 0) (before after : ℕ → Type 0) (r : Result ℕ E) → (said → (status : ℕ) → before status → after status)
+    → OnOk r said → IfOk r before → IfOk r after
+where_ok said before after (Ok status) follows written is = follows written status is
+where_ok said before after (Err why) follows written is = tt

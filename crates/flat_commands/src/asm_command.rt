@@ -3,6 +3,7 @@
 use command_line::AsmRequest;
 use elf_image::write_elf;
 use image_files::{Fault, Folder, read_source};
+use rv_asm::Listing;
 use std::io::Write;
 
 /// Writes the ELF file of a source, and what it holds: its words of text, its bytes of data before padding, its entry.
@@ -12,8 +13,22 @@ pub fn run_asm<'a, R: Folder + AllocGlobal, W: Write>(
     out: &mut W,
 ) -> Result<(), Fault<'a>> {
     let listing = read_source(rt, request.source)?;
+    write_file(rt, request.target, &listing)?;
+    tell(&listing, out)
+}
+
+/// Writes the ELF file of a listing.
+fn write_file<'a, R: Folder + AllocGlobal>(
+    rt: &R,
+    target: &'a str,
+    listing: &Listing,
+) -> Result<(), Fault<'a>> {
     let file = write_elf(rt.alloc(), listing.image())?;
-    rt.write(request.target, file.as_slice())?;
+    rt.write(target, file.as_slice())
+}
+
+/// Writes what a listing holds.
+fn tell<'a, W: Write>(listing: &Listing, out: &mut W) -> Result<(), Fault<'a>> {
     writeln!(
         out,
         "words {} data {} entry 0x{:08X}",

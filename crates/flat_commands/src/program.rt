@@ -3,8 +3,7 @@
 use crate::asm_command::run_asm;
 use crate::flat_command::run_flat;
 use command_line::{Request, read_request};
-use command_shell::finish;
-use image_files::{Fault, Folder};
+use image_files::{Fault, Folder, finish};
 use std::convert::AsStr;
 use std::io::Write;
 

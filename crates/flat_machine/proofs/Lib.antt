@@ -1,3 +1,4 @@
 pub mod Runs
 pub mod Turning
 pub mod PlainSteps
+pub mod PlainCode

@@ -3,15 +3,18 @@
 ghost use Rattle.std.specs.Prelude.{◌≡◌, ◌++◌, map, IfOk, OnOk};
 ghost use Rattle.std.specs.List.{range_with_len};
 ghost use Rattle.std.specs.FinMap.{from_entries};
-ghost use Rattle.page_memory.specs.Memory.{unreserved};
+ghost use Rattle.page_memory.specs.Memory.{Memory, unreserved};
 ghost use Rattle.page_memory.specs.MemoryMap.{first_stack_pointer};
 ghost use Rattle.rv_exec.specs.Registers.{cleared, with_register};
 ghost use Rattle.env_calls.specs.Calls.{sp};
 ghost use Rattle.elf_image.specs.Image.{ArePages};
 ghost use Rattle.flat_machine.specs.Process.{opening, first_break, opening_pages, image_entry};
 ghost use Rattle.flat_machine.specs.Process.{stack_entry};
+ghost use Rattle.flat_machine.specs.ImageCode.{HasImage};
+ghost use Rattle.decoded_pages.specs.Code.{ShowsAll};
 
 use crate::process::FlatProcess;
+use decoded_pages::DecodedPages;
 use elf_image::{Image, ImagePage};
 use env_calls::Env;
 use machine_limits::MOST_HARTS;
@@ -45,10 +48,12 @@ impl FlatProcess {
         let input = SharedBytes::new(alloc, input)?;
         let mapped = pages.len() as u32 + STACK_PAGES;
         let env = Env::new(alloc, input, first_break(pages), mapped);
+        let decoded = decoded_pages_of(alloc, pages)?;
         Ok(FlatProcess {
             harts,
             env,
             memory,
+            decoded,
             end: None,
         })
     }
@@ -101,4 +106,18 @@ fn image_memory(alloc: Global, pages: &[ImagePage]) -> Result<FlatMemory, AllocE
         memory.map_page(listed.number, page)?;
     }
     Ok(memory)
+}
+
+/// The decoded pages of an image: wherever memory has its pages, they show what memory has.
+pub fn decoded_pages_of(alloc: Global, pages: &[ImagePage]) -> Result<DecodedPages, AllocError>
+    requires { ArePages pages.now }
+    ensures { IfOk result (λ decoded. (memory : Memory) → HasImage pages.now memory →
+        ShowsAll decoded memory) }
+{
+    let mut decoded = DecodedPages::with_places(alloc, pages.len())?;
+    for listed in pages {
+        let page = &listed.page;
+        decoded.add(alloc, listed.number, page.rights(), page.bytes())?;
+    }
+    Ok(decoded)
 }

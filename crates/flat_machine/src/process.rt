@@ -5,6 +5,7 @@ ghost use Rattle.flat_machine.specs.Process.{hart_registers, is_live, IsWhole};
 ghost use Rattle.page_memory.specs.Memory.{byte_at, fetched};
 
 use crate::end::End;
+use decoded_pages::DecodedPages;
 use env_calls::Env;
 use page_memory::{FlatMemory, MemoryFault};
 use rv_exec::Regs;
@@ -17,11 +18,14 @@ pub struct FlatProcess {
     pub(crate) harts: Vec<Regs>,
     pub(crate) env: Env,
     pub(crate) memory: FlatMemory,
+    /// The pages of its memory that may be run and never written.
+    pub(crate) decoded: DecodedPages,
     pub(crate) end: Option<End>,
 }
 
 impl Model for FlatProcess {
     ghost use Rattle.std.specs.Prelude.{◌≤◌, vec_capacity};
+    ghost use Rattle.decoded_pages.specs.Code.{ShowsAll};
     ghost use Rattle.env_calls.specs.Environment.{most_harts};
     ghost use Rattle.flat_machine.specs.Process.{Process, IsWhole};
     ghost use Rattle.flat_machine.specs.ProcessCode.{process_code};
@@ -45,6 +49,7 @@ impl Model for FlatProcess {
         ending = process.end;
       });
       roomy : most_harts ≤ vec_capacity process.harts;
+      shows : ShowsAll process.decoded process.memory;
     } };
 }
 

@@ -91,7 +91,7 @@ impl FlatProcess {
         ensures within { result.done ≤ most }
     {
         let regs = &mut self.harts[hart as usize];
-        let halt = run_plainly(hart, regs, &mut self.memory, most);
+        let halt = run_plainly(hart, regs, &mut self.memory, &self.decoded, most);
         Course {
             done: most - halt.left,
             last: halt.last,

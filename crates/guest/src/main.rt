@@ -1,9 +1,9 @@
 //! The program `guest`. What it does is the library's, `guest_cli`.
 #![tactic(auto)]
 
-use command_shell::begin;
 use guest_cli::run_guest;
 use guest_frames::PagedMachine;
+use image_files::begin;
 use std::process::ExitCode;
 
 fn main(rt: HostRuntime) -> ExitCode {

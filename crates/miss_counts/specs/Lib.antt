@@ -1,4 +1,6 @@
 pub mod Counted
 pub mod FrameNumbers
+pub mod Guests
 pub mod Playing
 pub mod ServingLaws
+pub mod ZippedLaws

@@ -1,15 +1,19 @@
--- Counts that are kept as references come, where they are asked for.
-use Rattle.std.specs.Prelude.{◌≡◌, ℕ, ◌+◌, ◌<◌, ◌^◌, Bool, true, false, List, ◌++◌, length, Option, Some, None, ⊤}
+-- Counts that are kept as references come.
+use Rattle.std.specs.Prelude.{◌≡◌, ℕ, ◌+◌, ◌<◌, ◌^◌, List, [], ◌++◌, length}
 use Rattle.clock_policy.specs.declared.key.Key.{Key}
+use Rattle.miss_counts.specs.Counted.{misses_of}
+use Rattle.miss_counts.specs.declared.policy_name.PolicyName.{PolicyName}
 
--- A count begins where it is asked for. `all` is what is counted and what would be counted of a string to come.
-abbrev pub Opens : {S : Type 0} → Bool → (S → List Key → ℕ) → (List Key → ℕ) → Option S → Type 0
-Opens wanted all misses_of None = wanted ≡ false
-Opens wanted all misses_of (Some s) = (wanted ≡ true) × ((string : List Key) → all s string ≡ misses_of string)
+-- `all` is what is counted, and what would be counted of a string to come.
+
+-- a policy that was asked for begins, by its name
+abbrev pub Opens : {S : Type 0} → (S → List Key → ℕ) → ℕ → PolicyName → PolicyName × S → Type 0
+Opens all frames policy named = (named.0 ≡ policy) × ((string : List Key) → all named.1 string ≡ misses_of policy frames string)
 
 -- Some pages are used: what is counted and to come stays the same, as long as the count fits.
-abbrev pub GoesOn : {S : Type 0} → (S → ℕ) → (S → List Key → ℕ) → List Key → Option S → Option S → Type 0
-GoesOn count all pages None None = ⊤
-GoesOn count all pages None (Some t) = ⊥
-GoesOn count all pages (Some s) None = ⊥
-GoesOn count all pages (Some s) (Some t) = count s + length pages < 2 ^ 64 → (string : List Key) → all s (pages ++ string) ≡ all t string
+abbrev pub GoesOn : {S : Type 0} → (S → List Key → ℕ) → List Key → S → S → Type 0
+GoesOn all pages s t = all s [] + length pages < 2 ^ 64 → (string : List Key) → all s (pages ++ string) ≡ all t string
+
+-- What was counted is left out from now on.
+abbrev pub StartsAnew : {S : Type 0} → (S → List Key → ℕ) → S → S → Type 0
+StartsAnew all s t = (string : List Key) → all s string ≡ all s [] + all t string

@@ -1,10 +1,12 @@
 //! What each policy misses.
 
 ghost use Rattle.std.specs.Prelude.{◌≡◌, ◌↔◌, IfOk, Err, Some, None, true, false, map};
+ghost use Rattle.std.specs.List.{AllZip};
 ghost use Rattle.page_policies.specs.Optimal.{optimal_misses};
-ghost use Rattle.miss_counts.specs.Counted.{counted, asked, serves, all_serve, since, left};
+ghost use Rattle.miss_counts.specs.Counted.{IsRow, asked, all_serve, each_serves};
 
 use crate::play_count::{PlayCount, counts_by};
+use crate::policy_name::{PolicyName, each_serves};
 use crate::policy_set::PolicySet;
 use crate::stages::{Stage, StageListener};
 use clock_policy::Key;
@@ -12,62 +14,23 @@ use page_policies::{Frames, Policy, PolicyRefusal, misses};
 use std::alloc::{AllocError, Global};
 use whole_strings::optimum_counts;
 
-/// Misses with so many frames, of the policies that were asked for.
+/// What is counted of a policy.
 #[derive(Clone, Copy, Debug, PartialEq, Eq)]
+pub struct PolicyCount {
+    pub policy: PolicyName,
+    pub count: u64,
+}
+
+/// What is counted with so many frames, of the policies that were asked for.
+#[derive(Debug, Drop)]
 pub struct PolicyCounts {
     pub frames: Frames,
     /// How many references were counted.
     pub references: u64,
-    pub fifo: Option<u64>,
-    pub clock: Option<u64>,
-    pub lru: Option<u64>,
-    pub clock_pro_used: Option<u64>,
-    pub clock_pro: Option<u64>,
-    pub two_queues: Option<u64>,
-    pub lirs: Option<u64>,
-    pub arc: Option<u64>,
-    pub sieve: Option<u64>,
-    pub s3_fifo: Option<u64>,
-    pub w_tiny_lfu: Option<u64>,
-    pub random: Option<u64>,
+    /// A count for each policy, in the order in which they were asked for.
+    pub counts: Vec<PolicyCount>,
     /// None also where the string was not known as a whole.
     pub optimum: Option<u64>,
-}
-
-impl PolicyCounts {
-    /// What was counted since those.
-    pub fn since(self, before: PolicyCounts) -> PolicyCounts
-        ensures { result ≡ since self before }
-    {
-        PolicyCounts {
-            frames: self.frames,
-            references: self.references.saturating_sub(before.references),
-            fifo: left(self.fifo, before.fifo),
-            clock: left(self.clock, before.clock),
-            lru: left(self.lru, before.lru),
-            clock_pro_used: left(self.clock_pro_used, before.clock_pro_used),
-            clock_pro: left(self.clock_pro, before.clock_pro),
-            two_queues: left(self.two_queues, before.two_queues),
-            lirs: left(self.lirs, before.lirs),
-            arc: left(self.arc, before.arc),
-            sieve: left(self.sieve, before.sieve),
-            s3_fifo: left(self.s3_fifo, before.s3_fifo),
-            w_tiny_lfu: left(self.w_tiny_lfu, before.w_tiny_lfu),
-            random: left(self.random, before.random),
-            optimum: left(self.optimum, before.optimum),
-        }
-    }
-}
-
-/// What was counted since, where it was.
-fn left(after: Option<u64>, before: Option<u64>) -> Option<u64>
-    ensures { result ≡ left after before }
-{
-    let after = after?;
-    match before {
-        Some(before) => Some(after.saturating_sub(before)),
-        None => Some(after),
-    }
 }
 
 /// What a string misses under a policy.
@@ -136,11 +99,12 @@ fn counts_of(
     frames: Frames,
     string: &[Key],
     optimum: Option<u64>,
-    wanted: PolicySet,
+    wanted: &PolicySet,
 ) -> Result<PolicyCounts, AllocError>
-    requires served { serves wanted frames.number ≡ true }
-    requires optimum { optimum ≡ asked wanted.optimum (optimal_misses frames.number string.now) }
-    ensures { IfOk result (λ counts. counts ≡ counted wanted string.now frames) }
+    requires served { all_serve wanted.now.policies.items frames.number ≡ true }
+    requires optimum { optimum ≡ asked wanted.now.optimum (optimal_misses frames.number
+        string.now) }
+    ensures { IfOk result (IsRow wanted.now string.now frames) }
 {
     let counting = MissCount { string };
     counts_by(
@@ -149,7 +113,7 @@ fn counts_of(
         &counting,
         string.len() as u64,
         optimum,
-        wanted,
+        wanted.policies.as_slice(),
     )
 }
 
@@ -158,30 +122,31 @@ pub fn rows_of<P: StageListener>(
     alloc: Global,
     frames: &[Frames],
     string: &[Key],
-    wanted: PolicySet,
+    wanted: &PolicySet,
     progress: &mut P,
 ) -> Result<Vec<PolicyCounts>, PolicyRefusal>
-    ensures rows { IfOk result (λ rows. rows.items ≡ map (counted wanted string.now) frames.now) }
-    ensures bad_size { (result ≡ Err PolicyRefusal.BadSize) ↔ (all_serve wanted frames.now ≡
-        false) }
+    ensures rows { IfOk result (λ rows. AllZip (IsRow wanted.now string.now) frames.now
+        rows.items) }
+    ensures bad_size { (result ≡ Err PolicyRefusal.BadSize) ↔ (each_serves
+        wanted.now.policies.items frames.now ≡ false) }
 {
-    if !wanted.serves_all(frames) {
+    if !each_serves(wanted.policies.as_slice(), frames) {
         return Err(PolicyRefusal::BadSize);
     }
     Ok(count_rows(alloc, frames, string, wanted, progress)?)
 }
 
 /// The same rows. Each policy serves each number of frames.
-#[tactic(auto, using(crate::specs::ServingLaws::each_served, crate::proofs::Floors::floors_whole, crate::proofs::Floors::floor_here))]
+#[tactic(auto, using(crate::specs::ServingLaws::each_size_served, crate::proofs::Floors::floors_whole, crate::proofs::Floors::floor_here))]
 pub(crate) fn count_rows<P: StageListener>(
     alloc: Global,
     frames: &[Frames],
     string: &[Key],
-    wanted: PolicySet,
+    wanted: &PolicySet,
     progress: &mut P,
 ) -> Result<Vec<PolicyCounts>, AllocError>
-    requires { all_serve wanted frames.now ≡ true }
-    ensures { IfOk result (λ rows. rows.items ≡ map (counted wanted string.now) frames.now) }
+    requires { each_serves wanted.now.policies.items frames.now ≡ true }
+    ensures { IfOk result (λ rows. AllZip (IsRow wanted.now string.now) frames.now rows.items) }
 {
     let floors = floors_if(alloc, frames, string, wanted.optimum)?;
     let mut rows = Vec::new(alloc);

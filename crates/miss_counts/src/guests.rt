@@ -6,12 +6,13 @@ ghost use Rattle.std.specs.HashSet.{contains};
 ghost use Rattle.clock_policy.specs.declared.key.Key.{Key};
 ghost use Rattle.guest_strings.specs.ToCome.{to_come};
 ghost use Rattle.page_policies.specs.Strings.{is_page};
-ghost use Rattle.miss_counts.specs.Counted.{IsTable, IsUsualTable, all_asked_serve, guest_pages};
-ghost use Rattle.miss_counts.specs.Counted.{pages_of};
+ghost use Rattle.miss_counts.specs.Guests.{IsTable, IsUsualTable, all_asked_serve, guest_pages};
+ghost use Rattle.miss_counts.specs.Guests.{pages_of};
 ghost use Rattle.miss_counts.specs.FrameNumbers.{page_count};
 
 use crate::counts::{PolicyCounts, count_rows};
 use crate::frame_numbers::usual_frames;
+use crate::policy_name::{PolicyName, each_serves};
 use crate::policy_set::PolicySet;
 use crate::stages::{Stage, StageListener};
 use clock_policy::Key;
@@ -47,16 +48,16 @@ pub fn guest_rows<P: StageListener>(
     slice: u32,
     limit: u64,
     frames: Option<Vec<Frames>>,
-    wanted: PolicySet,
+    wanted: &PolicySet,
     progress: &mut P,
 ) -> Result<Vec<PolicyCounts>, PolicyRefusal>
     requires { length processes.items ≤ MOST_PROCESSES }
-    ensures rows { IfOk result (λ rows. IsTable wanted (guest_pages accesses slice limit
+    ensures rows { IfOk result (λ rows. IsTable wanted.now (guest_pages accesses slice limit
         processes.items) (option_map (λ f. f.items) frames) rows.items) }
-    ensures bad_size { (result ≡ Err PolicyRefusal.BadSize) ↔ (all_asked_serve wanted
-        (option_map (λ f. f.items) frames) ≡ false) }
+    ensures bad_size { (result ≡ Err PolicyRefusal.BadSize) ↔ (all_asked_serve
+        wanted.now.policies.items (option_map (λ f. f.items) frames) ≡ false) }
 {
-    if !serves_asked(wanted, &frames) {
+    if !serve_asked(wanted.policies.as_slice(), &frames) {
         return Err(PolicyRefusal::BadSize);
     }
     Ok(counted_rows(
@@ -65,11 +66,11 @@ pub fn guest_rows<P: StageListener>(
 }
 
 /// Whether each of the policies serves each of these numbers of frames, or the usual ones.
-fn serves_asked(wanted: PolicySet, frames: &Option<Vec<Frames>>) -> bool
-    ensures { result ≡ all_asked_serve wanted (option_map (λ f. f.items) frames.now) }
+fn serve_asked(policies: &[PolicyName], frames: &Option<Vec<Frames>>) -> bool
+    ensures { result ≡ all_asked_serve policies.now (option_map (λ f. f.items) frames.now) }
 {
     match frames {
-        Some(frames) => wanted.serves_all(frames.as_slice()),
+        Some(frames) => each_serves(policies, frames.as_slice()),
         None => true,
     }
 }
@@ -82,13 +83,14 @@ fn counted_rows<P: StageListener>(
     slice: u32,
     limit: u64,
     frames: Option<Vec<Frames>>,
-    wanted: PolicySet,
+    wanted: &PolicySet,
     progress: &mut P,
 ) -> Result<Vec<PolicyCounts>, AllocError>
     requires few { length processes.items ≤ MOST_PROCESSES }
-    requires served { all_asked_serve wanted (option_map (λ f. f.items) frames) ≡ true }
-    ensures { IfOk result (λ rows. IsTable wanted (guest_pages accesses slice limit processes.items)
-        (option_map (λ f. f.items) frames) rows.items) }
+    requires served { all_asked_serve wanted.now.policies.items (option_map (λ f. f.items) frames) ≡
+        true }
+    ensures { IfOk result (λ rows. IsTable wanted.now (guest_pages accesses slice limit
+        processes.items) (option_map (λ f. f.items) frames) rows.items) }
 {
     let string = pages_of(
         alloc,
@@ -112,10 +114,10 @@ fn counted_rows<P: StageListener>(
 fn usual_rows<P: StageListener>(
     alloc: Global,
     string: &[Key],
-    wanted: PolicySet,
+    wanted: &PolicySet,
     progress: &mut P,
 ) -> Result<Vec<PolicyCounts>, AllocError>
-    ensures { IfOk result (λ rows. IsUsualTable wanted string.now rows.items) }
+    ensures { IfOk result (λ rows. IsUsualTable wanted.now string.now rows.items) }
 {
     let usual = usual_frames(alloc, count_pages(alloc, string)?)?;
     count_rows(alloc, usual.as_slice(), string, wanted, progress)

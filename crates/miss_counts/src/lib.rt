@@ -1,22 +1,22 @@
 //! How many references of a string of pages, or of guests, miss under each replacement policy.
 #![tactic(auto)]
 
-mod clock_pro_players;
+mod any_player;
 mod counts;
 mod frame_numbers;
 mod guests;
-mod older_players;
 mod play_count;
 mod player;
+mod policy_name;
 mod policy_set;
 mod row;
 mod stages;
-mod younger_players;
 
-pub use counts::{PolicyCounts, rows_of};
+pub use counts::{PolicyCount, PolicyCounts, rows_of};
 pub use frame_numbers::usual_frames;
 pub use guests::{guest_rows, pages_of};
 pub use play_count::{PlayCount, counts_by};
+pub use policy_name::{PolicyName, all_serve, each_serves};
 pub use policy_set::PolicySet;
 pub use row::Row;
 pub use stages::{Quiet, Stage, StageListener};

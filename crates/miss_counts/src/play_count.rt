@@ -1,10 +1,10 @@
 //! One count under each policy, whatever is counted.
 
 ghost use Rattle.std.specs.Prelude.{◌≡◌, ◌↔◌, IfOk, Err, true};
-ghost use Rattle.miss_counts.specs.Counted.{asked, counts_by, serves};
+ghost use Rattle.miss_counts.specs.Counted.{IsCounted, misses_of, serves, all_serve};
 
-use crate::counts::PolicyCounts;
-use crate::policy_set::PolicySet;
+use crate::counts::{PolicyCount, PolicyCounts};
+use crate::policy_name::PolicyName;
 use clock_ring::ClockRing;
 use page_policies::{Fifo, Frames, Lru, Policy, PolicyRefusal, RandomPolicy, SecondChance};
 use std::alloc::{AllocError, Global};
@@ -25,74 +25,77 @@ pub trait PlayCount {
         ensures bad_size { (result ≡ Err PolicyRefusal.BadSize) ↔ P.refuses frames.number };
 }
 
-/// The count under a policy, where that is asked for. It serves so many frames.
-fn count_if<P: Policy, C: PlayCount>(
+/// The count under a policy, which serves so many frames.
+fn count_served<P: Policy, C: PlayCount>(
     alloc: Global,
     frames: Frames,
     counting: &C,
-    is_wanted: bool,
-) -> Result<Option<u64>, AllocError>
-    requires { is_wanted ≡ true → P.refuses frames.number → ⊥ }
-    ensures { IfOk result (λ count. count ≡ asked is_wanted (C.counts counting.now (P.misses
-        frames.number))) }
+) -> Result<u64, AllocError>
+    requires { P.refuses frames.number → ⊥ }
+    ensures { IfOk result (λ count. count ≡ C.counts counting.now (P.misses frames.number)) }
 {
-    if !is_wanted {
-        return Ok(None);
-    }
     match counting.count_under::<P>(alloc, frames) {
-        Ok(count) => Ok(Some(count as u64)),
+        Ok(count) => Ok(count as u64),
         Err(PolicyRefusal::NoMemory) => Err(AllocError),
         Err(PolicyRefusal::BadSize) => unreachable!(),
     }
 }
 
+/// The count under a policy by its name, which serves so many frames.
+#[tactic(auto, using(crate::specs::ServingLaws::not_refused))]
+fn count_by<C: PlayCount>(
+    alloc: Global,
+    policy: PolicyName,
+    frames: Frames,
+    counting: &C,
+) -> Result<u64, AllocError>
+    requires { serves policy frames.number ≡ true }
+    ensures { IfOk result (λ count. count ≡ C.counts counting.now (misses_of policy
+        frames.number)) }
+{
+    match policy {
+        PolicyName::Fifo => count_served::<Fifo, C>(alloc, frames, counting),
+        PolicyName::Clock => count_served::<SecondChance, C>(alloc, frames, counting),
+        PolicyName::Lru => count_served::<Lru, C>(alloc, frames, counting),
+        PolicyName::ClockProUsed => {
+            count_served::<ClockProUsed<ClockRing>, C>(alloc, frames, counting)
+        }
+        PolicyName::ClockPro => count_served::<ClockPro<ClockRing>, C>(alloc, frames, counting),
+        PolicyName::TwoQueues => count_served::<TwoQueues, C>(alloc, frames, counting),
+        PolicyName::Lirs => count_served::<Lirs, C>(alloc, frames, counting),
+        PolicyName::Arc => count_served::<Arc, C>(alloc, frames, counting),
+        PolicyName::Sieve => count_served::<Sieve, C>(alloc, frames, counting),
+        PolicyName::S3Fifo => count_served::<S3Fifo, C>(alloc, frames, counting),
+        PolicyName::WTinyLfu => count_served::<WTinyLfu, C>(alloc, frames, counting),
+        PolicyName::Random => count_served::<RandomPolicy, C>(alloc, frames, counting),
+    }
+}
+
 /// The count under each policy that is asked for, of a string of so many references, where it is
 /// told what is counted of the optimum.
-#[tactic(auto, using(crate::specs::ServingLaws::used_is_served, crate::specs::ServingLaws::published_is_served))]
+#[tactic(auto, using(crate::specs::ServingLaws::each_served))]
 pub fn counts_by<C: PlayCount>(
     alloc: Global,
     frames: Frames,
     counting: &C,
     references: u64,
     optimum: Option<u64>,
-    wanted: PolicySet,
+    policies: &[PolicyName],
 ) -> Result<PolicyCounts, AllocError>
-    requires { serves wanted frames.number ≡ true }
-    ensures { IfOk result (λ counts. counts ≡ counts_by (C.counts counting.now) wanted references
-        optimum frames) }
+    requires { all_serve policies.now frames.number ≡ true }
+    ensures { IfOk result (IsCounted (C.counts counting.now) policies.now references optimum
+        frames) }
 {
-    let fifo = count_if::<Fifo, C>(alloc, frames, counting, wanted.fifo)?;
-    let clock = count_if::<SecondChance, C>(alloc, frames, counting, wanted.clock)?;
-    let lru = count_if::<Lru, C>(alloc, frames, counting, wanted.lru)?;
-    let clock_pro_used = count_if::<ClockProUsed<ClockRing>, C>(
-        alloc,
-        frames,
-        counting,
-        wanted.clock_pro_used,
-    )?;
-    let clock_pro = count_if::<ClockPro<ClockRing>, C>(alloc, frames, counting, wanted.clock_pro)?;
-    let two_queues = count_if::<TwoQueues, C>(alloc, frames, counting, wanted.two_queues)?;
-    let lirs = count_if::<Lirs, C>(alloc, frames, counting, wanted.lirs)?;
-    let arc = count_if::<Arc, C>(alloc, frames, counting, wanted.arc)?;
-    let sieve = count_if::<Sieve, C>(alloc, frames, counting, wanted.sieve)?;
-    let s3_fifo = count_if::<S3Fifo, C>(alloc, frames, counting, wanted.s3_fifo)?;
-    let w_tiny_lfu = count_if::<WTinyLfu, C>(alloc, frames, counting, wanted.w_tiny_lfu)?;
-    let random = count_if::<RandomPolicy, C>(alloc, frames, counting, wanted.random)?;
+    let mut counts = Vec::new(alloc);
+    'policies: for at in 0..policies.len() {
+        let policy = policies[at];
+        let count = count_by(alloc, policy, frames, counting)?;
+        counts.push(PolicyCount { policy, count })?;
+    }
     Ok(PolicyCounts {
         frames,
         references,
-        fifo,
-        clock,
-        lru,
-        clock_pro_used,
-        clock_pro,
-        two_queues,
-        lirs,
-        arc,
-        sieve,
-        s3_fifo,
-        w_tiny_lfu,
-        random,
+        counts,
         optimum,
     })
 }

@@ -3,3 +3,4 @@ pub mod Overwriting
 pub mod PlacedEntries
 pub mod Reserving
 pub mod PageRows
+pub mod KeptPages

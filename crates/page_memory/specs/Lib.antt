@@ -18,3 +18,4 @@ pub mod RecentPages
 pub mod RecentPagesLaws
 pub mod Remembered
 pub mod RememberedLaws
+pub mod ReadOnly

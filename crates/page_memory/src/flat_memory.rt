@@ -1,6 +1,6 @@
 //! Flat memory, the reference for paged memory: all pages are there; with the words that harts reserved.
 
-ghost use Rattle.std.specs.Prelude.{◌≡◌, ◌+◌, ◌≤◌, ◌^◌, ◌<◌, Ok, Err, IfOk, IfErr, OnOk, OnErr, length, IsErr, None};
+ghost use Rattle.std.specs.Prelude.{◌≡◌, ◌+◌, ◌≤◌, ◌^◌, ◌<◌, Ok, Err, IfOk, IfErr, OnOk, OnErr, length, IsErr, None, IfSome, true, false};
 ghost use Rattle.std.specs.FinMap as map;
 ghost use Rattle.page_memory.specs.declared.words.Access.{Access};
 ghost use Rattle.page_memory.specs.Pages.{answer_by, number_at, aligned_page, HasGap};
@@ -91,6 +91,28 @@ impl FlatMemory {
         ensures memory { self.new ≡ self.old }
     {
         self.pages.load(width, address)
+    }
+
+    /// The number at an address whose page is remembered for loads.
+    #[inline(always)]
+    pub fn load_at_hand(&self, width: Width, address: u32) -> Option<u32>
+        ensures { IfSome result (λ number. loaded self.now width address ≡ Ok number) }
+    {
+        self.pages.load_at_hand(width, address)
+    }
+
+    /// Stores the low bytes of a word, if the address's page is remembered for stores and no reservation may stand, and answers
+    /// whether it has.
+    #[inline(always)]
+    #[tactic(auto, using(crate::proofs::Reserving::nothing_left), unfolding(crate::specs::Memory::stored))]
+    pub fn store_at_hand(&mut self, width: Width, address: u32, word: u32) -> bool
+        ensures done { result ≡ true → stored self.old width address word ≡ Ok self.new }
+        ensures other { result ≡ false → self.new ≡ self.old }
+    {
+        if self.reservations.any() {
+            return false;
+        }
+        self.pages.store_at_hand(width, address, word)
     }
 
     /// Loads the word that an atomic instruction is to replace: its page needs the right to write.

@@ -1,6 +1,6 @@
 //! Accesses to pages that are all there, with tests of alignment and rights; pages used last are remembered.
 
-ghost use Rattle.std.specs.Prelude.{◌≡◌, ◌+◌, ◌≤◌, ◌^◌, ◌<◌, ◌%◌, Ok, Err, MatchResult, IfOk, IfErr, OnOk, OnErr, length, IsErr, None};
+ghost use Rattle.std.specs.Prelude.{◌≡◌, ◌+◌, ◌≤◌, ◌^◌, ◌<◌, ◌%◌, Ok, Err, MatchResult, IfOk, IfErr, OnOk, OnErr, length, IsErr, None, IfSome, true, false};
 ghost use Rattle.std.specs.FinMap as map;
 ghost use Rattle.page_memory.specs.Pages.{usable, aligned_page, fetched, loaded, stored, answer_by, number_at, copied_out, copied_in, byte_at, with_zeroed, HasGap};
 ghost use Rattle.page_memory.specs.declared.words.Access.{Access};
@@ -128,13 +128,24 @@ impl FlatPages {
         ensures number { result ≡ loaded self.old width address }
         ensures memory { self.new ≡ self.old }
     {
+        match self.load_at_hand(width, address) {
+            Some(number) => Ok(number),
+            None => self.load_anew(width, address).answer(),
+        }
+    }
+
+    /// The number at an address whose page is remembered for loads.
+    #[inline(always)]
+    pub fn load_at_hand(&self, width: Width, address: u32) -> Option<u32>
+        ensures { IfSome result (λ number. loaded self.now width address ≡ Ok number) }
+    {
         let recent = self.recent.of(Access::Load, address);
         match offset_past(recent.start, address, width) {
             Some(past) => {
                 let page = self.pages.bytes(recent.place);
-                Ok(number_from(page, width, past))
+                Some(number_from(page, width, past))
             }
-            None => self.load_anew(width, address).answer(),
+            None => None,
         }
     }
 
@@ -180,13 +191,26 @@ impl FlatPages {
         ensures fault { IfErr result (λ fault. stored self.old width address word ≡ Err fault) }
         ensures err { OnErr result (self.new ≡ self.old) }
     {
+        if self.store_at_hand(width, address, word) {
+            Ok(())
+        } else {
+            self.store_anew(width, address, word)
+        }
+    }
+
+    /// Stores the low bytes of a word, if the address's page is remembered for stores, and answers whether it has.
+    #[inline(always)]
+    pub fn store_at_hand(&mut self, width: Width, address: u32, word: u32) -> bool
+        ensures done { result ≡ true → stored self.old width address word ≡ Ok self.new }
+        ensures other { result ≡ false → self.new ≡ self.old }
+    {
         let recent = self.recent.of(Access::Store, address);
         match offset_past(recent.start, address, width) {
             Some(past) => {
                 self.pages.put_number(recent.place, width, past, word);
-                Ok(())
+                true
             }
-            None => self.store_anew(width, address, word),
+            None => false,
         }
     }
 

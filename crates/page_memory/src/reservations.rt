@@ -69,6 +69,16 @@ impl Reservations {
         self.any = any_of(&self.by_hart);
     }
 
+    /// Whether any may stand.
+    #[inline(always)]
+    pub fn any(&self) -> bool
+        ensures { result ≡ false → self.now ≡ none_reserved }
+    {
+        // For the proof only: a read shows its invariant.
+        let _ = &self.by_hart;
+        self.any
+    }
+
     /// So many bytes from an address on were written.
     #[inline(always)]
     #[tactic(auto, using(crate::proofs::Reserving::nothing_left))]

@@ -2,9 +2,8 @@
 
 use crate::run_command::run_machines;
 use command_line::{Request, read_request};
-use command_shell::finish;
 use flat_commands::{run_asm, run_flat};
-use image_files::{Fault, Folder};
+use image_files::{Fault, Folder, finish};
 use serial_commands::{run_clock, run_debug, run_drive};
 use std::convert::AsStr;
 use std::io::{Read, Write};

@@ -2,8 +2,8 @@
 //! is the library's, `flat_commands`, which the whole program calls too.
 #![tactic(auto)]
 
-use command_shell::begin;
 use flat_commands::run_flat_commands;
+use image_files::begin;
 use std::process::ExitCode;
 
 fn main(rt: HostRuntime) -> ExitCode {

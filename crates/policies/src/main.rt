@@ -1,7 +1,7 @@
 //! The program `policies`. What it does is the library's, `policies_cli`.
 #![tactic(auto)]
 
-use command_shell::begin;
+use image_files::begin;
 use policies_cli::run_policies;
 use std::process::ExitCode;
 

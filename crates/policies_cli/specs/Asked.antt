@@ -2,7 +2,7 @@
 use Rattle.std.specs.Prelude.{◌≡◌, ℕ, List, map, option_map}
 use Rattle.flat_machine.specs.Process.{Process, opening}
 use Rattle.elf_image.specs.Start.{Start}
-use Rattle.miss_counts.specs.Counted.{IsTable, guest_pages}
+use Rattle.miss_counts.specs.Guests.{IsTable, guest_pages}
 use Rattle.miss_counts.specs.declared.counts.PolicyCounts.{PolicyCounts}
 use Rattle.image_files.specs.Reading.{AreGiven}
 use Rattle.policies_cli.specs.declared.request.GuestRequest.{GuestRequest}

@@ -7,7 +7,7 @@ use crate::teller::Teller;
 use crate::windows_curve::run_windows;
 use crate::wrong::Wrong;
 use clock_policy::Key;
-use page_policies::Frames;
+use page_policies::{Frames, MOST_POLICY_FRAMES};
 use std::alloc::{AllocError, Global};
 use std::io::Write;
 use std::num::NonZeroU32;
@@ -49,6 +49,9 @@ fn write_counted<'a, W: Write>(
     out: &mut W,
 ) -> Result<(), Wrong<'a>> {
     let lru = lru_curve(alloc, string)?;
+    if lru.len() > MOST_POLICY_FRAMES {
+        return Err(Wrong::ManyPages(lru.len()));
+    }
     write_both(alloc, string, lru.as_slice(), request, out)
 }
 

@@ -55,7 +55,7 @@ pub fn count_misses<'a, R: Folder + AllocGlobal, P: StageListener>(
         slice,
         limit,
         request.frames,
-        request.wanted,
+        &request.wanted,
         progress,
     )?;
     Ok(rows)

@@ -1,46 +1,74 @@
-//! The policies by name.
+//! Lists of policies.
 
-use miss_counts::PolicySet;
+use crate::wrong::Wrong;
+use miss_counts::{PolicyName, PolicySet, each_serves};
+use page_policies::Frames;
+use std::alloc::{AllocError, Global};
+use std::fmt;
 
-/// What `--policies` may name.
-pub(crate) const NAMES: &str =
-    "fifo, clock, lru, clock-pro-used, clock-pro, 2q, lirs, arc, sieve, s3-fifo, w-tinylfu, random, optimum, parted by commas, or all";
+/// The optimum's name in lists and tables.
+pub(crate) const OPTIMUM: &str = "optimum";
 
-/// None of them.
-const NONE: PolicySet = PolicySet {
-    fifo: false,
-    clock: false,
-    lru: false,
-    clock_pro_used: false,
-    clock_pro: false,
-    two_queues: false,
-    lirs: false,
-    arc: false,
-    sieve: false,
-    s3_fifo: false,
-    w_tiny_lfu: false,
-    random: false,
-    optimum: false,
-};
+/// The word that names all of them.
+const ALL: &str = "all";
 
 /// Those that are counted where none is named.
-pub(crate) const USUAL: PolicySet = PolicySet {
-    fifo: true,
-    clock: true,
-    lru: true,
-    clock_pro_used: true,
-    ..NONE
-};
+const USUAL: [PolicyName; 4] = [
+    PolicyName::Fifo,
+    PolicyName::Clock,
+    PolicyName::Lru,
+    PolicyName::ClockProUsed,
+];
 
-/// The policies that a list names, or the first word of it that names none.
-pub(crate) fn policies_in(list: &str) -> Result<PolicySet, &str> {
-    let mut set = NONE;
-    for word in list.split(',') {
-        if !add(&mut set, word) {
-            return Err(word);
+/// What `--policies` may name.
+#[derive(Clone, Copy, Debug)]
+pub struct PolicyWords;
+
+impl fmt::Display for PolicyWords {
+    fn fmt<W: fmt::Write>(&self, f: &mut fmt::Formatter<W>) -> fmt::Result {
+        for policy in PolicyName::ALL {
+            write!(f, "{policy}, ")?;
+        }
+        write!(f, "{OPTIMUM}, parted by commas, or {ALL}")
+    }
+}
+
+/// The usual policies that serve each of these numbers of frames.
+pub(crate) fn usual_policies(
+    alloc: Global,
+    frames: &[Frames],
+    optimum: bool,
+) -> Result<PolicySet, AllocError> {
+    let mut policies = Vec::new(alloc);
+    for policy in USUAL {
+        if each_serves(&[policy], frames) {
+            policies.push(policy)?;
         }
     }
-    Ok(set)
+    Ok(PolicySet { policies, optimum })
+}
+
+/// The policies that a list names, in the order of a table's columns.
+pub(crate) fn policies_in<'a>(alloc: Global, list: &'a str) -> Result<PolicySet, Wrong<'a>> {
+    if let Some(word) = unknown_word(list) {
+        return Err(Wrong::Policies(word, PolicyWords));
+    }
+    Ok(named_policies(alloc, list)?)
+}
+
+/// The policies that a list of their names has.
+fn named_policies(alloc: Global, list: &str) -> Result<PolicySet, AllocError> {
+    let has_all = has_word(list, ALL);
+    let mut policies = Vec::new(alloc);
+    for policy in PolicyName::ALL {
+        if has_all || has_word(list, policy.text()) {
+            policies.push(policy)?;
+        }
+    }
+    Ok(PolicySet {
+        policies,
+        optimum: has_all || has_word(list, OPTIMUM),
+    })
 }
 
 /// Whether a list has the word.
@@ -53,42 +81,22 @@ pub(crate) fn has_word(list: &str, word: &str) -> bool {
     false
 }
 
-/// Whether the word names a policy, or all.
-fn add(set: &mut PolicySet, word: &str) -> bool {
-    match word {
-        "fifo" => set.fifo = true,
-        "clock" => set.clock = true,
-        "lru" => set.lru = true,
-        "clock-pro-used" => set.clock_pro_used = true,
-        "clock-pro" => set.clock_pro = true,
-        "2q" => set.two_queues = true,
-        "lirs" => set.lirs = true,
-        "arc" => set.arc = true,
-        "sieve" => set.sieve = true,
-        "s3-fifo" => set.s3_fifo = true,
-        "w-tinylfu" => set.w_tiny_lfu = true,
-        "random" => set.random = true,
-        "optimum" => set.optimum = true,
-        "all" => *set = all(),
-        _ => return false,
+/// The first word of a list that names no policy.
+fn unknown_word(list: &str) -> Option<&str> {
+    for word in list.split(',') {
+        if !is_known(word) {
+            return Some(word);
+        }
     }
-    true
+    None
 }
 
-fn all() -> PolicySet {
-    PolicySet {
-        fifo: true,
-        clock: true,
-        lru: true,
-        clock_pro_used: true,
-        clock_pro: true,
-        two_queues: true,
-        lirs: true,
-        arc: true,
-        sieve: true,
-        s3_fifo: true,
-        w_tiny_lfu: true,
-        random: true,
-        optimum: true,
+/// Whether the word names a policy, or all.
+fn is_known(word: &str) -> bool {
+    for policy in PolicyName::ALL {
+        if policy.text() == word {
+            return true;
+        }
     }
+    word == OPTIMUM || word == ALL
 }

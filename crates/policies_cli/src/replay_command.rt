@@ -5,8 +5,7 @@ use crate::table::write_table;
 use crate::teller::Teller;
 use crate::wrong::Wrong;
 use clock_policy::Key;
-use image_files::Fault;
-use miss_counts::{PolicyCounts, PolicySet, Row, Stage, StageListener, rows_of};
+use miss_counts::{PolicyCounts, PolicyName, Row, Stage, StageListener, rows_of};
 use page_policies::Frames;
 use std::alloc::{AllocError, Global};
 use std::io::{BufRead, Write};
@@ -62,7 +61,7 @@ fn count_whole<'a, B: BufRead + Drop, P: StageListener>(
         alloc,
         request.frames.as_slice(),
         string.as_slice(),
-        request.wanted,
+        &request.wanted,
         progress,
     )?)
 }
@@ -74,7 +73,11 @@ fn count_as_it_comes<'a, B: BufRead + Drop, P: StageListener>(
     request: &ReplayRequest<'a>,
     progress: &mut P,
 ) -> Result<Vec<PolicyCounts>, Wrong<'a>> {
-    let mut rows = new_rows(alloc, request.frames.as_slice(), request.wanted)?;
+    let mut rows = new_rows(
+        alloc,
+        request.frames.as_slice(),
+        request.wanted.policies.as_slice(),
+    )?;
     play_rest(alloc, trace, request, &mut rows, progress)
 }
 
@@ -87,15 +90,12 @@ fn play_rest<'a, B: BufRead + Drop, P: StageListener>(
     progress: &mut P,
 ) -> Result<Vec<PolicyCounts>, Wrong<'a>> {
     let skipped = play(alloc, trace, rows, request.skip, progress)?;
-    let mut counts = counts_of(alloc, rows.as_slice())?;
+    for row in rows.iter_mut() {
+        row.forget();
+    }
     match play(alloc, trace, rows, u64::MAX, progress) {
         Ok(0) => Err(none_played(request, skipped)),
-        Ok(_) => {
-            for (counts, row) in counts.iter_mut().zip(rows.iter()) {
-                *counts = row.counts().since(*counts);
-            }
-            Ok(counts)
-        }
+        Ok(_) => counts_of(alloc, rows.as_slice()),
         Err(wrong) => Err(wrong),
     }
 }
@@ -152,10 +152,10 @@ fn play_block<'a>(rows: &mut Vec<Row>, block: &[Key]) -> Result<(), Wrong<'a>> {
 fn new_rows<'a>(
     alloc: Global,
     frames: &[Frames],
-    wanted: PolicySet,
+    policies: &[PolicyName],
 ) -> Result<Vec<Row>, Wrong<'a>> {
     let mut rows = Vec::new(alloc);
-    add_rows(alloc, &mut rows, frames, wanted)?;
+    add_rows(alloc, &mut rows, frames, policies)?;
     Ok(rows)
 }
 
@@ -163,10 +163,10 @@ fn add_rows<'a>(
     alloc: Global,
     rows: &mut Vec<Row>,
     frames: &[Frames],
-    wanted: PolicySet,
+    policies: &[PolicyName],
 ) -> Result<(), Wrong<'a>> {
     for frames in frames {
-        add_row(rows, Row::new(alloc, *frames, wanted)?)?;
+        add_row(rows, Row::new(alloc, *frames, policies)?)?;
     }
     Ok(())
 }
@@ -181,9 +181,14 @@ fn add_row(rows: &mut Vec<Row>, row: Row) -> Result<(), AllocError> {
 fn counts_of<'a>(alloc: Global, rows: &[Row]) -> Result<Vec<PolicyCounts>, Wrong<'a>> {
     let mut counts = Vec::new(alloc);
     for row in rows {
-        if counts.push(row.counts()).is_err() {
-            return Err(Wrong::Fault(Fault::NoMemory));
-        }
+        add_counts(&mut counts, row.counts(alloc)?)?;
     }
     Ok(counts)
+}
+
+fn add_counts(all: &mut Vec<PolicyCounts>, counts: PolicyCounts) -> Result<(), AllocError> {
+    match all.push(counts) {
+        Ok(()) => Ok(()),
+        Err(_) => Err(AllocError),
+    }
 }

@@ -1,7 +1,7 @@
 //! What is asked for.
 
 use guest_strings::AccessKinds;
-use miss_counts::PolicySet;
+use miss_counts::{PolicyName, PolicySet};
 use page_policies::Frames;
 use std::num::NonZeroU32;
 use trace_files::TraceFormat;
@@ -90,7 +90,7 @@ pub struct CurveRequest<'a> {
 pub struct WriteBacksRequest<'a> {
     pub frames: Vec<Frames>,
     pub format: TraceFormat,
-    pub wanted: PolicySet,
+    pub policies: Vec<PolicyName>,
     pub printing: Printing,
     pub trace: &'a str,
 }

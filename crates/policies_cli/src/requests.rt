@@ -3,7 +3,7 @@
 use crate::access_choice::{accesses, is_given};
 use crate::commands::policies;
 use crate::frame_lists::{ListFault, frames_in};
-use crate::policy_names::{NAMES, USUAL, has_word, policies_in};
+use crate::policy_names::{OPTIMUM, has_word, policies_in, usual_policies};
 use crate::request::{
     CurveRequest, GuestRequest, MissesRequest, PoliciesRequest, Printing, ReplayRequest,
     TotalsRequest, TraceRequest, WriteBacksRequest,
@@ -13,7 +13,7 @@ use clap::ArgMatches;
 use clap::error::ErrorKind;
 use image_files::Fault;
 use machine_limits::{MOST_FRAMES, MOST_PROCESSES};
-use miss_counts::{PolicySet, usual_frames};
+use miss_counts::{PolicyName, PolicySet, all_serve, usual_frames};
 use page_policies::Frames;
 use std::alloc::Global;
 use std::convert::AsStr;
@@ -90,11 +90,7 @@ fn misses_request<'a>(
     alloc: Global,
     matches: &ArgMatches<'a>,
 ) -> Result<PoliciesRequest<'a>, Wrong<'a>> {
-    let usual = PolicySet {
-        optimum: true,
-        ..USUAL
-    };
-    let (frames, wanted) = guests_table(alloc, matches, usual)?;
+    let (frames, wanted) = guests_table(alloc, matches)?;
     let guest = guest_request(alloc, matches)?;
     Ok(PoliciesRequest::Misses(MissesRequest {
         guest,
@@ -108,15 +104,14 @@ fn misses_request<'a>(
 fn guests_table<'a>(
     alloc: Global,
     matches: &ArgMatches<'a>,
-    usual: PolicySet,
 ) -> Result<(Option<Vec<Frames>>, PolicySet), Wrong<'a>> {
     match matches.get_str("frames") {
         Some(list) => {
             let frames = listed_frames(alloc, list)?;
-            let wanted = wanted_policies(matches, usual, frames.as_slice())?;
+            let wanted = wanted_policies(alloc, matches, true, frames.as_slice())?;
             Ok((Some(frames), wanted))
         }
-        None => Ok((None, wanted_policies(matches, usual, &[])?)),
+        None => Ok((None, wanted_policies(alloc, matches, true, &[])?)),
     }
 }
 
@@ -145,7 +140,7 @@ fn replay_request<'a>(
     let format = format(matches)?;
     let trace = trace(matches)?;
     let frames = trace_frames(alloc, matches)?;
-    let wanted = replayed_policies(matches, frames.as_slice(), skip)?;
+    let wanted = replayed_policies(alloc, matches, frames.as_slice(), skip)?;
     Ok(PoliciesRequest::Replay(ReplayRequest {
         frames,
         format,
@@ -158,19 +153,17 @@ fn replay_request<'a>(
 
 /// The policies that a trace is played on. The optimum goes with no references that are skipped.
 fn replayed_policies<'a>(
+    alloc: Global,
     matches: &ArgMatches<'a>,
     frames: &[Frames],
     skip: u32,
 ) -> Result<PolicySet, Wrong<'a>> {
-    let named = wanted_policies(matches, USUAL, frames)?;
-    let wanted = PolicySet {
-        optimum: named.optimum || is_given(matches, "optimum"),
-        ..named
-    };
-    if skip > 0 && wanted.optimum {
+    let PolicySet { policies, optimum } = wanted_policies(alloc, matches, false, frames)?;
+    let optimum = optimum || is_given(matches, "optimum");
+    if skip > 0 && optimum {
         return Err(Wrong::Together("skip", "optimum", WHOLE));
     }
-    Ok(wanted)
+    Ok(PolicySet { policies, optimum })
 }
 
 /// The numbers of frames that a trace is played with.
@@ -188,11 +181,11 @@ fn write_backs_request<'a>(
     let format = format(matches)?;
     let trace = trace(matches)?;
     let frames = trace_frames(alloc, matches)?;
-    let wanted = writing_policies(matches, frames.as_slice())?;
+    let policies = writing_policies(alloc, matches, frames.as_slice())?;
     Ok(PoliciesRequest::WriteBacks(WriteBacksRequest {
         frames,
         format,
-        wanted,
+        policies,
         printing: printing(matches),
         trace,
     }))
@@ -200,20 +193,18 @@ fn write_backs_request<'a>(
 
 /// The policies whose pages are written back: `all` is all but the optimum.
 fn writing_policies<'a>(
+    alloc: Global,
     matches: &ArgMatches<'a>,
     frames: &[Frames],
-) -> Result<PolicySet, Wrong<'a>> {
+) -> Result<Vec<PolicyName>, Wrong<'a>> {
     match matches.get_str("policies") {
-        Some(list) if has_word(list, "optimum") => {
-            return Err(Wrong::Value("policies", "optimum", NO_WRITE_BACKS));
+        Some(list) if has_word(list, OPTIMUM) => {
+            return Err(Wrong::Value("policies", OPTIMUM, NO_WRITE_BACKS));
         }
         _ => {}
     }
-    let wanted = wanted_policies(matches, USUAL, frames)?;
-    Ok(PolicySet {
-        optimum: false,
-        ..wanted
-    })
+    let PolicySet { policies, .. } = wanted_policies(alloc, matches, false, frames)?;
+    Ok(policies)
 }
 
 fn curve_request<'a>(matches: &ArgMatches<'a>) -> Result<PoliciesRequest<'a>, Wrong<'a>> {
@@ -270,37 +261,28 @@ fn trace<'a>(matches: &ArgMatches<'a>) -> Result<&'a str, Wrong<'a>> {
     }
 }
 
-/// The policies that are named, each of which has to serve these numbers of frames; or else the usual ones that do.
+/// The policies that are named, each of which has to serve these numbers of frames; or else the usual ones that do, and the optimum
+/// where that is usual.
 fn wanted_policies<'a>(
+    alloc: Global,
     matches: &ArgMatches<'a>,
-    usual: PolicySet,
+    optimum: bool,
     frames: &[Frames],
 ) -> Result<PolicySet, Wrong<'a>> {
     let Some(list) = matches.get_str("policies") else {
-        let are_served = first_unserved(frames, usual).is_none();
-        return Ok(PolicySet {
-            clock_pro_used: are_served,
-            ..usual
-        });
+        return Ok(usual_policies(alloc, frames, optimum)?);
     };
-    let named = named_policies(list)?;
-    match first_unserved(frames, named) {
+    let named = policies_in(alloc, list)?;
+    match first_unserved(frames, named.policies.as_slice()) {
         Some(frames) => Err(Wrong::ClockProFrames(frames.number())),
         None => Ok(named),
     }
 }
 
-fn named_policies<'a>(list: &'a str) -> Result<PolicySet, Wrong<'a>> {
-    match policies_in(list) {
-        Ok(set) => Ok(set),
-        Err(word) => Err(Wrong::Value("policies", word, NAMES)),
-    }
-}
-
 /// The first number of frames that one of the policies can't have: CLOCK-Pro's list serves those of a machine alone.
-fn first_unserved(frames: &[Frames], wanted: PolicySet) -> Option<Frames> {
+fn first_unserved(frames: &[Frames], policies: &[PolicyName]) -> Option<Frames> {
     for frames in frames {
-        if !wanted.serves(*frames) {
+        if !all_serve(policies, *frames) {
             return Some(*frames);
         }
     }

@@ -1,8 +1,10 @@
 //! The table of misses.
 
+ghost use Rattle.std.specs.Prelude.{◌≡◌, ◌+◌, ◌*◌, ◌/◌, ◌<◌};
+
+use crate::policy_names::OPTIMUM;
 use crate::request::Printing;
-use miss_counts::PolicyCounts;
-use page_policies::Frames;
+use miss_counts::{PolicyCount, PolicyCounts, PolicyName};
 use std::io;
 use std::io::Write;
 
@@ -12,92 +14,73 @@ const WIDE: usize = 11;
 /// How wide a column is that also has how many times the optimum's misses they are.
 const WIDER: usize = 18;
 
-/// A policy's name, and its misses where they were counted.
-type Column = (&'static str, Option<u64>);
-
-fn columns_of(counts: &PolicyCounts) -> [Column; 12] {
-    [
-        ("fifo", counts.fifo),
-        ("clock", counts.clock),
-        ("lru", counts.lru),
-        ("clock-pro-used", counts.clock_pro_used),
-        ("clock-pro", counts.clock_pro),
-        ("2q", counts.two_queues),
-        ("lirs", counts.lirs),
-        ("arc", counts.arc),
-        ("sieve", counts.sieve),
-        ("s3-fifo", counts.s3_fifo),
-        ("w-tinylfu", counts.w_tiny_lfu),
-        ("random", counts.random),
-    ]
+/// A row of a table: what was counted has a column.
+#[derive(Clone, Copy)]
+struct TableRow<'r> {
+    frames: usize,
+    references: u64,
+    counts: &'r [PolicyCount],
+    optimum: Option<u64>,
 }
 
-/// Writes a row for each number of frames. What was counted has a column.
+fn row_of(counts: &PolicyCounts) -> TableRow<'_> {
+    TableRow {
+        frames: counts.frames.number(),
+        references: counts.references,
+        counts: counts.counts.as_slice(),
+        optimum: counts.optimum,
+    }
+}
+
+/// Writes a row for each number of frames.
 pub(crate) fn write_table<W: Write>(
     rows: &[PolicyCounts],
     printing: Printing,
     out: &mut W,
 ) -> io::Result<()> {
     if let Some(counts) = rows.first() {
-        write_any_head(counts, printing, out)?;
+        write_any_head(&row_of(counts), printing, out)?;
     }
     for counts in rows {
-        write_any_row(counts, printing, out)?;
+        write_any_row(&row_of(counts), printing, out)?;
     }
     Ok(())
 }
 
-fn write_any_head<W: Write>(
-    counts: &PolicyCounts,
-    printing: Printing,
-    out: &mut W,
-) -> io::Result<()> {
+fn write_any_head<W: Write>(row: &TableRow<'_>, printing: Printing, out: &mut W) -> io::Result<()> {
     if printing.is_csv {
-        write_csv_head(counts, out)
+        write_csv_head(row, out)
     } else {
-        write_head(counts, printing, out)
+        write_head(row, printing, out)
     }
 }
 
-fn write_any_row<W: Write>(
-    counts: &PolicyCounts,
-    printing: Printing,
-    out: &mut W,
-) -> io::Result<()> {
+fn write_any_row<W: Write>(row: &TableRow<'_>, printing: Printing, out: &mut W) -> io::Result<()> {
     if printing.is_csv {
-        write_csv_row(counts, printing, out)
+        write_csv_row(row, printing, out)
     } else {
-        write_row(counts, printing, out)
+        write_row(row, printing, out)
     }
 }
 
-fn write_csv_head<W: Write>(counts: &PolicyCounts, out: &mut W) -> io::Result<()> {
+fn write_csv_head<W: Write>(row: &TableRow<'_>, out: &mut W) -> io::Result<()> {
     write!(out, "frames")?;
-    for (name, misses) in columns_of(counts) {
-        if misses.is_some() {
-            write!(out, ",{name}")?;
-        }
+    for counted in row.counts {
+        write!(out, ",{}", counted.policy)?;
     }
-    if counts.optimum.is_some() {
-        write!(out, ",optimum")?;
+    if row.optimum.is_some() {
+        write!(out, ",{OPTIMUM}")?;
     }
     writeln!(out)
 }
 
-fn write_csv_row<W: Write>(
-    counts: &PolicyCounts,
-    printing: Printing,
-    out: &mut W,
-) -> io::Result<()> {
-    let frames = counts.frames.number();
-    write!(out, "{frames}")?;
-    for (_, misses) in columns_of(counts) {
-        if let Some(misses) = misses {
-            write_csv_value(misses, counts.references, printing, out)?;
-        }
+fn write_csv_row<W: Write>(row: &TableRow<'_>, printing: Printing, out: &mut W) -> io::Result<()> {
+    write!(out, "{}", row.frames)?;
+    for counted in row.counts {
+        write_csv_value(counted.count, row.references, printing, out)?;
     }
-    if let Some(misses) = counts.optimum {
-        write_csv_value(misses, counts.references, printing, out)?;
+    if let Some(misses) = row.optimum {
+        write_csv_value(misses, row.references, printing, out)?;
     }
     writeln!(out)
 }
@@ -117,26 +100,28 @@ fn write_csv_value<W: Write>(
 }
 
 /// Whether beside each policy's misses stands how many times the optimum's they are.
-fn has_shares(counts: &PolicyCounts, printing: Printing) -> bool {
-    counts.optimum.is_some() && !printing.is_ratio
+fn has_shares(row: &TableRow<'_>, printing: Printing) -> bool {
+    row.optimum.is_some() && !printing.is_ratio
 }
 
-fn write_head<W: Write>(counts: &PolicyCounts, printing: Printing, out: &mut W) -> io::Result<()> {
-    let wide = if has_shares(counts, printing) {
+fn write_head<W: Write>(row: &TableRow<'_>, printing: Printing, out: &mut W) -> io::Result<()> {
+    let wide = if has_shares(row, printing) {
         WIDER
     } else {
         WIDE
     };
     write!(out, "frames")?;
     let mut is_first = true;
-    for (name, misses) in columns_of(counts) {
-        if misses.is_some() {
-            write_name(name, if is_first { WIDE } else { wide }, out)?;
-            is_first = false;
-        }
+    for counted in row.counts {
+        write_name(
+            counted.policy.text(),
+            if is_first { WIDE } else { wide },
+            out,
+        )?;
+        is_first = false;
     }
-    if counts.optimum.is_some() {
-        write_name("optimum", if is_first { WIDE } else { wide }, out)?;
+    if row.optimum.is_some() {
+        write_name(OPTIMUM, if is_first { WIDE } else { wide }, out)?;
     }
     writeln!(out)
 }
@@ -154,28 +139,36 @@ fn write_blanks<W: Write>(count: usize, out: &mut W) -> io::Result<()> {
     Ok(())
 }
 
-fn write_row<W: Write>(counts: &PolicyCounts, printing: Printing, out: &mut W) -> io::Result<()> {
-    let frames = counts.frames.number();
-    let has_shares = has_shares(counts, printing);
-    write!(out, "{frames:>6}")?;
+fn write_row<W: Write>(row: &TableRow<'_>, printing: Printing, out: &mut W) -> io::Result<()> {
+    write!(out, "{:>6}", row.frames)?;
     let mut is_first = true;
-    for (name, misses) in columns_of(counts) {
-        if let Some(misses) = misses {
-            if is_first || !has_shares {
-                write_blanks(name.len().saturating_sub(WIDE - 1), out)?;
-            }
-            is_first = false;
-            write_value(misses, counts.references, printing, out)?;
-            match counts.optimum {
-                Some(optimum) if has_shares => write_share(misses, optimum, out)?,
-                _ => {}
-            }
-        }
+    for counted in row.counts {
+        write_count(*counted, is_first, row, printing, out)?;
+        is_first = false;
     }
-    if let Some(misses) = counts.optimum {
-        write_value(misses, counts.references, printing, out)?;
+    if let Some(misses) = row.optimum {
+        write_value(misses, row.references, printing, out)?;
     }
     writeln!(out)
+}
+
+/// Writes a policy's count, and how many times the optimum's it is where both are told.
+fn write_count<W: Write>(
+    counted: PolicyCount,
+    is_first: bool,
+    row: &TableRow<'_>,
+    printing: Printing,
+    out: &mut W,
+) -> io::Result<()> {
+    let has_shares = has_shares(row, printing);
+    if is_first || !has_shares {
+        write_blanks(counted.policy.text().len().saturating_sub(WIDE - 1), out)?;
+    }
+    write_value(counted.count, row.references, printing, out)?;
+    match row.optimum {
+        Some(optimum) if has_shares => write_share(counted.count, optimum, out),
+        _ => Ok(()),
+    }
 }
 
 fn write_value<W: Write>(
@@ -207,12 +200,16 @@ pub(crate) fn write_ratio<W: Write>(misses: u64, references: u64, out: &mut W) -
     write!(out, "{whole}.{rest:0>4}")
 }
 
-/// The quotient of two counts in so small parts, rounded to the nearest.
-pub(crate) fn part_of(count: u64, of: u64, parts: u64, of_none: u64) -> u64 {
+/// The quotient of two counts in so small parts, rounded to the nearest; of none it is as told. No product is cut.
+pub(crate) fn part_of(count: u64, of: u64, parts: u64, of_none: u64) -> u128
+    ensures of_none { of ≡ 0 → result ≡ of_none }
+    ensures part { 0 < of → result ≡ (count * parts + of / 2) / of }
+{
     if of == 0 {
-        return of_none;
+        return u128::from(of_none);
     }
-    count.saturating_mul(parts).saturating_add(of / 2) / of
+    let product = u128::from(count) * u128::from(parts);
+    (product + u128::from(of / 2)) / u128::from(of)
 }
 
 /// Writes a row for 1 frame, for 2 and so on: what LRU misses, and what the optimum does where that was counted.
@@ -224,42 +221,22 @@ pub(crate) fn write_curve<W: Write>(
     out: &mut W,
 ) -> io::Result<()> {
     for (at, misses) in lru.iter().enumerate() {
-        let Some(frames) = Frames::new(at.saturating_add(1)) else {
-            return Ok(());
-        };
-        let counts = PolicyCounts {
+        let counts = [PolicyCount {
+            policy: PolicyName::Lru,
+            count: *misses as u64,
+        }];
+        let row = TableRow {
+            frames: at.saturating_add(1),
             references,
-            lru: Some(*misses as u64),
+            counts: &counts,
             optimum: optimum.get(at).map(|misses| *misses as u64),
-            ..no_counts(frames)
         };
         if at == 0 {
-            write_any_head(&counts, printing, out)?;
+            write_any_head(&row, printing, out)?;
         }
-        write_any_row(&counts, printing, out)?;
+        write_any_row(&row, printing, out)?;
     }
     Ok(())
-}
-
-/// Nothing was counted with so many frames.
-fn no_counts(frames: Frames) -> PolicyCounts {
-    PolicyCounts {
-        frames,
-        references: 0,
-        fifo: None,
-        clock: None,
-        lru: None,
-        clock_pro_used: None,
-        clock_pro: None,
-        two_queues: None,
-        lirs: None,
-        arc: None,
-        sieve: None,
-        s3_fifo: None,
-        w_tiny_lfu: None,
-        random: None,
-        optimum: None,
-    }
 }
 
 /// Writes what a sample of one page in so many says that LRU misses. Each frame of the sample stands for so many of the whole, and each

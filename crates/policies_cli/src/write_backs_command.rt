@@ -44,7 +44,7 @@ fn count<'a, R: Files + AllocGlobal, P: StageListener>(
         rt.alloc(),
         request.frames.as_slice(),
         string.as_slice(),
-        request.wanted,
+        request.policies.as_slice(),
         progress,
     )?)
 }

@@ -1,5 +1,6 @@
 //! What is wrong with the words or the trace that the program was given.
 
+use crate::policy_names::PolicyWords;
 use image_files::Fault;
 use page_policies::PolicyRefusal;
 use std::alloc::AllocError;
@@ -17,6 +18,9 @@ pub enum Wrong<'a> {
     /// An option's value, and what it may be.
     #[error("--{0} {1}: {2}")]
     Value(&'static str, &'a str, &'static str),
+    /// A word that names no policy, and those that do.
+    #[error("--policies {0}: {1}")]
+    Policies(&'a str, PolicyWords),
     /// Two options that don't go together, and why.
     #[error("--{0} with --{1}: {2}")]
     Together(&'static str, &'static str, &'static str),
@@ -27,6 +31,9 @@ pub enum Wrong<'a> {
     BadSize,
     #[error("{0} images: 64 run at most")]
     ManyImages(usize),
+    /// A curve of so many pages.
+    #[error("{0} pages: a curve has rows for 16777216 frames at most")]
+    ManyPages(usize),
     /// How many references are skipped, of a trace that has so many.
     #[error("--skip {0}: all {2} references of {1} are skipped")]
     AllSkipped(u64, &'a str, u64),

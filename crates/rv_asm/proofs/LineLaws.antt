@@ -8,7 +8,7 @@ use Rattle.asm_lines.specs.declared.fault.FaultKind.TheVariants.{LabelTwice, Too
 use Rattle.asm_statements.specs.declared.section.Section.{Section}
 use Rattle.asm_statements.specs.declared.section.Section.TheVariants.{Text, Data}
 use Rattle.asm_statements.specs.declared.part.CodePart.{CodePart}
-use Rattle.asm_statements.specs.declared.part.Datum.{Datum}
+use Rattle.asm_values.specs.declared.datum.Datum.{Datum}
 use Rattle.rv_asm.specs.declared.item.Item.{Item}
 use Rattle.rv_asm.specs.declared.item.Item.TheVariants.{Label, InText, InData}
 use Rattle.asm_lines.specs.Forms.{SourceLine}

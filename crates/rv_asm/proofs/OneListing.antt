@@ -12,8 +12,8 @@ use Rattle.rv_isa.specs.declared.kinds.ImmediateKind.TheVariants.{Addi}
 use Rattle.asm_statements.specs.declared.section.Section.TheVariants.{Text, Data}
 use Rattle.asm_statements.specs.declared.part.CodePart.{CodePart}
 use Rattle.asm_statements.specs.declared.part.CodePart.TheVariants.{Fixed, LoadAddress, Jump, Branch, Number, Address}
-use Rattle.asm_statements.specs.declared.part.Datum.{Datum}
-use Rattle.asm_statements.specs.declared.part.Datum.TheVariants.{Word, Pointer, Half, Byte, Zeros}
+use Rattle.asm_values.specs.declared.datum.Datum.{Datum}
+use Rattle.asm_values.specs.declared.datum.Datum.TheVariants.{Word, Pointer, Half, Byte, Zeros}
 use Rattle.rv_asm.specs.declared.item.Item.{Item}
 use Rattle.rv_asm.specs.declared.item.Item.TheVariants.{Label, InText, InData}
 use Rattle.rv_asm.specs.declared.word.TextWord.{TextWord}
@@ -21,7 +21,8 @@ use Rattle.rv_asm.specs.declared.word.TextWord.TheVariants.{Instruction, Plain}
 use Rattle.text_lines.specs.Text.{lines_of}
 use Rattle.rv_asm.specs.Words.{Spell, instruction_of}
 use Rattle.rv_asm.specs.Program.{size}
-use Rattle.asm_statements.specs.Parts.{code_length, datum_length}
+use Rattle.asm_statements.specs.Parts.{code_length}
+use Rattle.asm_values.specs.Lengths.{datum_length}
 use Rattle.rv_asm.specs.Listing.{ListingContent, image_of}
 use Rattle.rv_asm.specs.Assembly.{DistinctLabels, IsSplit, PutsWords, PutsBytes, TextAt, DataAt, HoldsParts, Assembles}
 use Rattle.rv_asm.proofs.Places.{size_push}

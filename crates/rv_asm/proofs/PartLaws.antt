@@ -15,8 +15,8 @@ use Rattle.asm_lines.specs.declared.fault.FaultKind.TheVariants.{NoLabel, Range}
 use Rattle.asm_statements.specs.declared.section.Section.TheVariants.{Text, Data}
 use Rattle.asm_statements.specs.declared.part.CodePart.{CodePart}
 use Rattle.asm_statements.specs.declared.part.CodePart.TheVariants.{Fixed, LoadAddress, Jump, Branch, Number, Address}
-use Rattle.asm_statements.specs.declared.part.Datum.{Datum}
-use Rattle.asm_statements.specs.declared.part.Datum.TheVariants.{Word, Pointer, Half, Byte, Zeros}
+use Rattle.asm_values.specs.declared.datum.Datum.{Datum}
+use Rattle.asm_values.specs.declared.datum.Datum.TheVariants.{Word, Pointer, Half, Byte, Zeros}
 use Rattle.rv_asm.specs.declared.item.Item.{Item}
 use Rattle.rv_asm.specs.declared.item.Item.TheVariants.{Label, InText, InData}
 use Rattle.rv_asm.specs.declared.word.TextWord.{TextWord}

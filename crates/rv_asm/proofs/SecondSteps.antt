@@ -12,14 +12,15 @@ use Rattle.asm_statements.specs.declared.section.Section.{Section}
 use Rattle.asm_statements.specs.declared.section.Section.TheVariants.{Text, Data}
 use Rattle.asm_statements.specs.declared.part.CodePart.{CodePart}
 use Rattle.asm_statements.specs.declared.part.CodePart.TheVariants.{Fixed, LoadAddress, Jump, Branch, Number, Address}
-use Rattle.asm_statements.specs.declared.part.Datum.{Datum}
-use Rattle.asm_statements.specs.declared.part.Datum.TheVariants.{Word, Pointer, Half, Byte, Zeros}
+use Rattle.asm_values.specs.declared.datum.Datum.{Datum}
+use Rattle.asm_values.specs.declared.datum.Datum.TheVariants.{Word, Pointer, Half, Byte, Zeros}
 use Rattle.rv_asm.specs.declared.item.Item.{Item}
 use Rattle.rv_asm.specs.declared.item.Item.TheVariants.{Label, InText, InData}
 use Rattle.rv_asm.specs.declared.word.TextWord.{TextWord}
 use Rattle.rv_asm.specs.Steps.{FaultAt, Fails, chained, map_value, on_line}
 use Rattle.rv_asm.specs.Program.{size, item_length, address_of}
-use Rattle.asm_statements.specs.Parts.{code_length, datum_length}
+use Rattle.asm_statements.specs.Parts.{code_length}
+use Rattle.asm_values.specs.Lengths.{datum_length}
 use Rattle.rv_asm.specs.SecondPass.{Sections, code_words, datum_bytes, at_label, load_words, jump_words, branch_words, if_reached, reaches, next_address, put, put_all, no_sections, second_pass}
 
 pub put_next : (all : List Item) (sections more : Sections) (items : List Item) (i : ℕ) (item : Item) → i < length items → item ≡ get_or items i item → put all sections item ≡ Ok more → put_all all sections (drop i items) ≡ put_all all more (drop (i + 1) items)

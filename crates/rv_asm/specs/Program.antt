@@ -4,7 +4,8 @@ use Rattle.std.specs.Str.{bytes_eq}
 use Rattle.page_memory.specs.MemoryMap.{text_start}
 use Rattle.asm_statements.specs.declared.section.Section.{Section}
 use Rattle.asm_statements.specs.declared.section.Section.TheVariants.{Text, Data}
-use Rattle.asm_statements.specs.Parts.{code_length, datum_length}
+use Rattle.asm_statements.specs.Parts.{code_length}
+use Rattle.asm_values.specs.Lengths.{datum_length}
 use Rattle.rv_asm.specs.declared.item.Item.{Item}
 use Rattle.rv_asm.specs.declared.item.Item.TheVariants.{Label, InText, InData}
 use Rattle.rv_asm.specs.declared.label_place.LabelPlace.{LabelPlace}

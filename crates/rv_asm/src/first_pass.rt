@@ -2,10 +2,12 @@
 
 ghost use Rattle.std.specs.Prelude.{◌≡◌, IfOk, IfErr, map};
 ghost use Rattle.asm_lines.specs.Faults.{RefusesLine};
+ghost use Rattle.asm_lines.specs.Forms.{line_value};
 ghost use Rattle.asm_statements.specs.Effects.{effect_value};
 ghost use Rattle.rv_asm.specs.Steps.{Fails};
 ghost use Rattle.rv_asm.specs.Program.{section_of_label};
-ghost use Rattle.rv_asm.specs.FirstPass.{first_pass, with_line, with_labels, with_items, with_effect};
+ghost use Rattle.rv_asm.specs.FirstPass.{first_pass, with_line, with_form, with_reading};
+ghost use Rattle.rv_asm.specs.FirstPass.{with_labels, with_items, with_effect};
 ghost use Rattle.rv_asm.specs.LineEffects.{effect_of_name};
 ghost use Rattle.rv_asm.specs.declared.item.Item.TheVariants.{InText, InData};
 
@@ -13,7 +15,8 @@ use crate::fault::AsmError;
 use crate::item::Item;
 use crate::program::Program;
 use asm_lines::{LineRefusal, Operand, SourceLine, Span, scan_line};
-use asm_statements::{CodePart, Datum, Effect, Section, read_statement};
+use asm_statements::{CodePart, Effect, Section, read_statement};
+use asm_values::Datum;
 use std::alloc::Global;
 use text_lines::next_line;
 
@@ -48,12 +51,43 @@ fn with_line<'a>(
     ensures program { IfOk result (λ more. with_line line program.entry text.now ≡ Ok more) }
     ensures refusal { IfErr result (RefusesLine (with_line line program.entry text.now)) }
 {
+    let form = scan_line(alloc, text)?;
+    with_form(alloc, line, program, form)
+}
+
+/// The program with one more line of this form.
+fn with_form<'a>(
+    alloc: Global,
+    line: usize,
+    program: Program<'a>,
+    form: SourceLine<'a>,
+) -> Result<Program<'a>, LineRefusal>
+    ensures program { IfOk result (λ more. with_form line program.entry
+        (line_value form.entry) ≡ Ok more) }
+    ensures refusal { IfErr result (RefusesLine (with_form line program.entry
+        (line_value form.entry))) }
+{
     let SourceLine {
         labels,
         name,
         operands,
-    } = scan_line(alloc, text)?;
+    } = form;
     let effect = read_effect(alloc, program.section(), name, operands.as_slice())?;
+    with_reading(line, program, labels, effect)
+}
+
+/// The program with a line's labels, and then after what the line does.
+fn with_reading<'a>(
+    line: usize,
+    program: Program<'a>,
+    labels: Vec<Span<'a>>,
+    effect: Effect<'a>,
+) -> Result<Program<'a>, LineRefusal>
+    ensures program { IfOk result (λ more. with_reading line program.entry labels.entry.items
+        (effect_value effect.entry) ≡ Ok more) }
+    ensures refusal { IfErr result (RefusesLine (with_reading line program.entry
+        labels.entry.items (effect_value effect.entry))) }
+{
     let program = with_labels(program, labels)?;
     with_effect(line, program, effect)
 }

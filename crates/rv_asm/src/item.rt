@@ -4,7 +4,8 @@ ghost use Rattle.std.specs.Prelude.{◌≡◌, ◌≤◌};
 ghost use Rattle.rv_asm.specs.Program.{item_length};
 
 use asm_lines::Span;
-use asm_statements::{CodePart, Datum, Section};
+use asm_statements::{CodePart, Section};
+use asm_values::Datum;
 
 /// A label of a source, or a part that it puts into a section, with the number of its line.
 #[derive(Drop)]

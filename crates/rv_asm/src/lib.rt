@@ -21,9 +21,8 @@ pub use asm_lines::{
     FaultKind, blanks_and_comments_give_no_tokens, numbers_stand_for_their_value,
     texts_reach_to_their_quote, words_reach_to_their_end,
 };
-pub use asm_statements::{
-    escapes_stand_for_their_bytes, loaded_word, pseudo_instructions_are_instructions,
-};
+pub use asm_statements::{loaded_word, pseudo_instructions_are_instructions};
+pub use asm_values::escapes_stand_for_their_bytes;
 pub use assembling::assemble;
 pub use fault::AsmError;
 pub use laws::one_listing;

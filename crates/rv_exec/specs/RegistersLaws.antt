@@ -1,5 +1,5 @@
 -- How an array of 32 words, whose first stays 0, stands for x1 to x31.
-use Rattle.std.specs.Prelude.{◌≡◌, ℕ, zero, suc, ◌+◌, ◌%◌, ◌^◌, List, [], ◌∷◌, drop, length, slice_index, slice_set, refl}
+use Rattle.std.specs.Prelude.{◌≡◌, ◌<◌, ℕ, zero, suc, ◌+◌, ◌%◌, ◌^◌, List, [], ◌∷◌, drop, length, slice_index, slice_set, refl}
 use Rattle.std.proofs.Common.{arith, ap, sym}
 use Rattle.rv_exec.specs.Registers.{Registers, register, with_register, with_pc, next_pc}
 use Rattle.rv_exec.specs.Line.{computed}
@@ -22,6 +22,13 @@ written_at pc [] zero value = refl
 written_at pc [] (suc n) value = refl
 written_at pc (x ∷ xs) zero value = refl
 written_at pc (x ∷ xs) (suc n) value = refl
+
+pub put_at : (pc : ℕ) (xs : List ℕ) (index value : ℕ) → 0 < index
+    → with_register (record { pc = pc; x = drop 1 xs }) index value ≡ record { pc = pc; x = drop 1 (slice_set xs index value) }
+unfolding with_register
+put_at pc xs zero value h = absurd (omega arith)
+put_at pc [] (suc n) value h = refl
+put_at pc (x ∷ xs) (suc n) value h = refl
 
 -- ---- the registers with a pc that stands aside
 

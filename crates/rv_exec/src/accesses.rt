@@ -278,7 +278,7 @@ pub fn width_of_store(kind: StoreKind) -> Width
 /// The word that a loaded number fills a register with.
 #[inline]
 #[tactic(auto, unfolding(crate::specs::Access::extended))]
-fn extend(kind: LoadKind, number: u32) -> u32
+pub fn extend(kind: LoadKind, number: u32) -> u32
     ensures { result ≡ extended kind number }
 {
     match kind {

@@ -18,8 +18,9 @@ mod operations;
 mod outcome;
 mod regs;
 
-pub use accesses::{width_of_load, width_of_store};
+pub use accesses::{extend, width_of_load, width_of_store};
 pub use amo::amo_word;
+pub use arithmetic::{add, branches, operate, operate_immediate, shift, without_lowest_bit};
 pub use bus::{Bus, BusError};
 pub use cause::Cause;
 pub use execution::{execute, execute_at};

@@ -114,4 +114,15 @@ impl Regs {
         self.x[number as usize] = value;
         self.x[0] = 0;
     }
+
+    /// Writes a register by its number, which is not that of `x0`: no other register is touched.
+    #[inline(always)]
+    #[tactic(auto, using(crate::specs::RegistersLaws::put_at))]
+    pub fn put(&mut self, number: u8, value: u32)
+        requires above { 0 < number }
+        requires below { number < 32 }
+        ensures { self.new ≡ with_register self.old number value }
+    {
+        self.x[number as usize] = value;
+    }
 }

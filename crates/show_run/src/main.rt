@@ -1,7 +1,7 @@
 //! The program behind `scripts/show-run`: it prints the pictures of a run. What it does is the library's, `run_picture`.
 #![tactic(auto)]
 
-use command_shell::begin;
+use image_files::begin;
 use run_picture::run_show;
 use std::process::ExitCode;
 

@@ -1,13 +1,16 @@
 //! A table of what is written back.
 
-ghost use Rattle.std.specs.Prelude.{◌≡◌, ◌↔◌, Err, true, false, map, IfOk};
-ghost use Rattle.miss_counts.specs.Counted.{serves, all_serve};
+ghost use Rattle.std.specs.Prelude.{◌≡◌, ◌↔◌, Err, true, false, IfOk};
+ghost use Rattle.std.specs.List.{AllZip};
+ghost use Rattle.miss_counts.specs.Counted.{all_serve, each_serves};
 ghost use Rattle.write_backs.specs.WriteBacks.{write_backs};
-ghost use Rattle.write_backs.specs.WrittenBack.{written_back};
+ghost use Rattle.write_backs.specs.WrittenBack.{IsWrittenBack};
 
 use crate::dirty_pages::write_backs;
 use guest_strings::Reference;
-use miss_counts::{PlayCount, PolicyCounts, PolicySet, Stage, StageListener, counts_by};
+use miss_counts::{
+    PlayCount, PolicyCounts, PolicyName, Stage, StageListener, counts_by, each_serves,
+};
 use page_policies::{Frames, Policy, PolicyRefusal};
 use std::alloc::{AllocError, Global};
 
@@ -30,17 +33,25 @@ impl<'s> PlayCount for WriteBackCount<'s> {
 }
 
 /// What is written back of a string with so many frames.
+#[tactic(auto, unfolding(crate::specs::WrittenBack::IsWrittenBack))]
 fn counts_of(
     alloc: Global,
     frames: Frames,
     string: &[Reference],
-    wanted: PolicySet,
+    policies: &[PolicyName],
 ) -> Result<PolicyCounts, AllocError>
-    requires { serves wanted frames.number ≡ true }
-    ensures { IfOk result (λ counts. counts ≡ written_back wanted string.now frames) }
+    requires { all_serve policies.now frames.number ≡ true }
+    ensures { IfOk result (IsWrittenBack policies.now string.now frames) }
 {
     let counting = WriteBackCount { string };
-    counts_by(alloc, frames, &counting, string.len() as u64, None, wanted)
+    counts_by(
+        alloc,
+        frames,
+        &counting,
+        string.len() as u64,
+        None,
+        policies,
+    )
 }
 
 /// What is written back of a string with each of these numbers of frames, under the policies that are asked for.
@@ -48,34 +59,36 @@ pub fn write_back_rows<P: StageListener>(
     alloc: Global,
     frames: &[Frames],
     string: &[Reference],
-    wanted: PolicySet,
+    policies: &[PolicyName],
     progress: &mut P,
 ) -> Result<Vec<PolicyCounts>, PolicyRefusal>
-    ensures rows { IfOk result (λ rows. rows.items ≡ map (written_back wanted string.now)
-        frames.now) }
-    ensures bad_size { (result ≡ Err PolicyRefusal.BadSize) ↔ (all_serve wanted frames.now ≡
+    ensures rows { IfOk result (λ rows. AllZip (IsWrittenBack policies.now string.now) frames.now
+        rows.items) }
+    ensures bad_size { (result ≡ Err PolicyRefusal.BadSize) ↔ (each_serves policies.now frames.now ≡
         false) }
 {
-    if !wanted.serves_all(frames) {
+    if !each_serves(policies, frames) {
         return Err(PolicyRefusal::BadSize);
     }
-    Ok(count_rows(alloc, frames, string, wanted, progress)?)
+    Ok(count_rows(alloc, frames, string, policies, progress)?)
 }
 
 /// The same rows. Each policy serves each number of frames.
+#[tactic(auto, using(miss_counts::specs::ServingLaws::each_size_served))]
 fn count_rows<P: StageListener>(
     alloc: Global,
     frames: &[Frames],
     string: &[Reference],
-    wanted: PolicySet,
+    policies: &[PolicyName],
     progress: &mut P,
 ) -> Result<Vec<PolicyCounts>, AllocError>
-    requires { all_serve wanted frames.now ≡ true }
-    ensures { IfOk result (λ rows. rows.items ≡ map (written_back wanted string.now) frames.now) }
+    requires { each_serves policies.now frames.now ≡ true }
+    ensures { IfOk result (λ rows. AllZip (IsWrittenBack policies.now string.now) frames.now
+        rows.items) }
 {
     let mut rows = Vec::new(alloc);
-    'frames: for number in frames {
-        rows.push(counts_of(alloc, *number, string, wanted)?)?;
+    'frames: for at in 0..frames.len() {
+        rows.push(counts_of(alloc, frames[at], string, policies)?)?;
         progress.tell(Stage::Rows(rows.len(), frames.len()));
     }
     Ok(rows)

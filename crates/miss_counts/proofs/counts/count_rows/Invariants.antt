@@ -1,6 +1,7 @@
-use Rattle.std.proofs.Common.{◌≡◌, map, take}
-use Rattle.miss_counts.specs.Counted.{counted}
+use Rattle.std.proofs.Common.{take}
+use Rattle.std.specs.List.{AllZip}
+use Rattle.miss_counts.specs.Counted.{IsRow}
 use Rattle.miss_counts.proofs.counts.count_rows.Given as goal
 
 abbrev pub invariant-frames : goal.invariant-frames
-invariant-frames g l = l.rows.items ≡ map (counted l.wanted l.string) (take l.at l.frames)
+invariant-frames g l = AllZip (IsRow l.wanted l.string) (take l.at l.frames) l.rows.items

@@ -1,6 +1,6 @@
 use Rattle.std.proofs.Common.{◌≡◌, ◌++◌, length}
 use Rattle.guest_strings.specs.ToCome.{to_come}
-use Rattle.miss_counts.specs.Counted.{pages_of}
+use Rattle.miss_counts.specs.Guests.{pages_of}
 use Rattle.miss_counts.proofs.guests.pages_of.Given as goal
 
 abbrev pub invariant-references : goal.invariant-references

@@ -6,6 +6,8 @@ use Rattle.flat_machine.specs.Process.{Process, hart_registers, may_step}
 use Rattle.flat_machine.specs.StepLaws.{started}
 use Rattle.flat_machine.specs.SettlingLaws.{room_to_spawn, settled, settled_as, went_alike}
 use Rattle.flat_machine.proofs.PlainSteps.{stops_there}
+use Rattle.flat_machine.proofs.PlainCode.{effect_keeps, stepped_keeps}
+use Rattle.decoded_pages.proofs.Runs.{all_shown_on}
 use Rattle.flat_machine.specs.PlainRun.{StopsNext}
 use Rattle.flat_machine.proofs.process.FlatProcess.end_step.Goals as goal
 
@@ -37,6 +39,9 @@ invariant_of-self c =
     record {
       whole = left.whole;
       roomy = (let same = c.settle.ensures.room in let before = c.self.invariant.roomy in omega arith);
+      shows = all_shown_on c.self.inside.decoded c.self.inside.memory c.finish_step.new.memory
+          (stepped_keeps c.in-Ok.stepped (effect c.args.hart c.index_mut-regs.result.now c.self.inside.env c.self.inside.memory) c.finish_step.new.regs c.finish_step.new.env c.self.inside.memory c.finish_step.new.memory
+          (effect_keeps c.args.hart c.index_mut-regs.result.now c.self.inside.env c.self.inside.memory) c.in-Ok.ensures.stepped c.in-Ok.ensures.memory_stays) c.self.invariant.shows;
     }
 
 pub returns-in-Ok-clause-ok : goal.returns-in-Ok-clause-ok

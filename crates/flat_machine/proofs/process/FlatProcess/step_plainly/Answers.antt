@@ -1,7 +1,9 @@
 -- The laws of a plain run, for the process that is seen.
-use Rattle.std.proofs.Common.{◌≡◌, ◌-◌, true, arith, ap, sym, ◌∙◌}
+use Rattle.std.proofs.Common.{◌≡◌, ◌-◌, true, arith, ap, sym, ◌∙◌, length-set}
 use Rattle.flat_machine.specs.Process.{Process, may_step, flat_step}
 use Rattle.flat_machine.specs.ByTurns.{by_turns, turn_after}
+use Rattle.decoded_pages.proofs.Runs.{all_shown_on}
+use Rattle.flat_machine.proofs.PlainCode.{plain_keeps}
 use Rattle.flat_machine.proofs.PlainSteps.{taken_plainly, none_plainly, one_plainly, stops_next}
 use Rattle.flat_machine.proofs.process.FlatProcess.step_plainly.Goals as goal
 
@@ -31,3 +33,19 @@ returns-clause-stopped c = λ fewer.
     let process : Process = record { harts = c.self.inside.harts.items; environment = c.self.inside.env; memory = c.self.inside.memory; ending = c.self.inside.end } in
     let here : may_step c.args.hart process ≡ true = ap (may_step c.args.hart) c.self.view_is ∙ c.requires in
     stops_next c.args.hart process c.run_plainly-halt.new.regs c.run_plainly-halt.new.memory c.run_plainly-halt.result.last c.self.invariant.whole here (c.run_plainly-halt.ensures.stopped (omega arith))
+
+-- no hart came or went, and pages that may not be written are as they were
+pub invariant_of-self : goal.invariant_of-self
+invariant_of-self c =
+    let run = c.run_plainly-halt in
+    let before = c.self.invariant.whole in
+    record {
+      whole = record {
+        marked = length-set c.self.inside.harts.items c.args.hart run.new.regs ∙ before.marked;
+        few = before.few;
+        some = before.some;
+      };
+      roomy = c.self.invariant.roomy;
+      shows = all_shown_on c.self.inside.decoded c.self.inside.memory run.new.memory
+          (plain_keeps c.args.hart (c.args.most - run.result.left) c.index_mut-regs.result.now c.self.inside.memory run.new.regs run.new.memory run.ensures.ran) c.self.invariant.shows;
+    }

@@ -1,8 +1,0 @@
-use Rattle.std.proofs.Common.{◌≡◌, drop}
-use Rattle.asm_statements.specs.Directives.{each_of, data_value}
-use Rattle.asm_statements.proofs.ListLemmas.{continued}
-use Rattle.asm_statements.proofs.data.each_data_value.Given as goal
-
-abbrev pub invariant-loop-operand : goal.invariant-loop-operand
-invariant-loop-operand l =
-    each_of (data_value l.size) l.operands ≡ continued l.values.items (each_of (data_value l.size) (drop l.operand-index l.operands))

@@ -1,8 +1,0 @@
-use Rattle.std.proofs.Common.{◌≡◌, drop}
-use Rattle.asm_statements.specs.Directives.{each_of, text_word}
-use Rattle.asm_statements.proofs.ListLemmas.{continued}
-use Rattle.asm_statements.proofs.data.each_text_word.Given as goal
-
-abbrev pub invariant-loop-operand : goal.invariant-loop-operand
-invariant-loop-operand l =
-    each_of text_word l.operands ≡ continued l.words.items (each_of text_word (drop l.operand-index l.operands))

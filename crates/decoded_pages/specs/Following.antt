@@ -1,0 +1,36 @@
+-- What becomes of a decoded instruction, as its line says it.
+use Rattle.std.specs.Prelude.{◌≡◌, ℕ, ◌+◌, ◌*◌, ◌%◌}
+use Rattle.page_memory.specs.Memory.{Memory}
+use Rattle.rv_exec.specs.Arithmetic.{word_sum}
+use Rattle.rv_exec.specs.Registers.{Registers, with_pc}
+use Rattle.rv_exec.specs.Line.{Line, Next}
+use Rattle.decoded_pages.specs.declared.performing.After.{After}
+use Rattle.decoded_pages.specs.declared.performing.After.TheVariants as after
+use Rattle.decoded_pages.specs.declared.instruction.DecodedInstruction.{DecodedInstruction}
+use Rattle.decoded_pages.specs.Classes.{Class, class_of, decoded_as, OfClass, Falls}
+
+-- the instruction of that number of the page that starts there has this line, and left these registers, whose pc stands aside, and
+-- this memory
+abbrev pub Follows : After → Line → (start place : ℕ) → Registers → Memory → Type 0
+Follows after.Next line start place regs memory = line ≡ Next (with_pc regs (word_sum (start + place * 4) 4)) memory
+Follows (after.To relative) line start place regs memory = (line ≡ Next (with_pc regs (word_sum start relative)) memory) × (relative % 4 ≡ 0)
+Follows after.ByWord line start place regs memory = Unit {0}
+
+-- a fact that holds where nothing was done
+abbrev pub Stays : After → Type 0 → Type 0
+Stays after.Next fact = Unit {0}
+Stays (after.To relative) fact = Unit {0}
+Stays after.ByWord fact = fact
+
+-- where the next instruction of the page follows, it may
+abbrev pub FallsAfter : After → Class → Type 0
+FallsAfter after.Next c = Falls c
+FallsAfter (after.To relative) c = Unit {0}
+FallsAfter after.ByWord c = Unit {0}
+
+-- a decoded instruction, the one of that number of the page that starts there, came to this: whatever line it stands for is what was done
+pub record Performs (decoded : DecodedInstruction) (start place : ℕ) (result : After) (regs regs' : Registers) (memory memory' : Memory) : Type 0 where
+  pub followed : (line : Line) → OfClass (class_of decoded.operation) (line ≡ decoded_as decoded start (with_pc regs (start + place * 4)) memory) → Follows result line start place regs' memory'
+  pub falls : FallsAfter result (class_of decoded.operation)
+  pub registers_stay : Stays result (regs' ≡ regs)
+  pub memory_stays : Stays result (memory' ≡ memory)

@@ -1,0 +1,12 @@
+use Rattle.std.proofs.Common.{◌≡◌, ◌-◌, ◌≤◌, Some}
+use Rattle.flat_machine.specs.PlainRun.{plain_run}
+use Rattle.flat_machine.proofs.plain_run.run_many.Given as goal
+
+abbrev pub invariant-loop-left : goal.invariant-loop-left
+invariant-loop-left l = record {
+  ran : plain_run l.hart (l.most - l.left) l.initial.regs l.initial.memory ≡ Some (l.regs, l.memory);
+  within : l.left ≤ l.most;
+}
+
+abbrev pub decreases-loop-left : goal.decreases-loop-left
+decreases-loop-left l = l.left

@@ -1,0 +1,6 @@
+use Rattle.std.proofs.Common.{◌≤◌}
+use Rattle.guest_records.proofs.random_turns.count_live.Given as goal
+
+-- Each hart counts once at most.
+abbrev pub invariant-harts : goal.invariant-harts
+invariant-harts l = l.count ≤ l.hart

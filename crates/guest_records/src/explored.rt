@@ -1,0 +1,66 @@
+//! A run by a schedule that is chosen at random, told as a record.
+
+ghost use Rattle.std.specs.Prelude.{◌≡◌, IfOk};
+ghost use Rattle.flat_machine.specs.Process.{Process, opening};
+ghost use Rattle.run_records.specs.Prints.{print_of};
+ghost use Rattle.run_records.specs.Records.{value_of};
+ghost use Rattle.run_records.specs.Replaying.{EndsLike, Replays};
+
+use crate::chosen_run::{Ran, run_chosen};
+use crate::random_turns::RandomTurns;
+use elf_image::Image;
+use flat_machine::{End, FlatProcess, Schedule};
+use run_records::{Closing, Fingerprint, Record, take_fingerprint};
+use std::alloc::{AllocError, Global};
+
+/// Runs an image on an input by turns that a seed chooses, up to so many steps, and tells the run as a record: it names the file of the
+/// image by its fingerprint, and replays.
+pub fn explore_run(
+    alloc: Global,
+    image: &Image,
+    file: Fingerprint,
+    input: Vec<u8>,
+    seed: u64,
+    limit: u64,
+) -> Result<Record, AllocError>
+    ensures image { IfOk result (λ told. told.image ≡ file) }
+    ensures input { IfOk result (λ told. told.input ≡ print_of input.items) }
+    ensures replays { IfOk result (λ told. (after : Process) × Replays (value_of told) (opening
+        image.now input.items) after) }
+{
+    let input_print = take_fingerprint(input.as_slice());
+    let mut process = FlatProcess::new(alloc, image, input)?;
+    let mut schedule = Schedule::new(alloc)?;
+    let mut turns = RandomTurns::new(seed);
+    let ran = run_chosen(&mut process, &mut schedule, &mut turns, limit);
+    let kept = Vec::from_slice(alloc, schedule.turns())?;
+    Ok(Record {
+        image: file,
+        input: input_print,
+        turns: kept,
+        closing: closing(&process, ran),
+    })
+}
+
+/// What a process came to.
+fn closing(process: &FlatProcess, ran: Ran) -> Closing
+    ensures ended { EndsLike result.end process.now.ending }
+    ensures steps { result.steps ≡ ran.steps }
+    ensures output { result.output ≡ print_of process.now.environment.output }
+{
+    Closing {
+        end: end_of(process.end(), ran),
+        steps: ran.steps,
+        output: take_fingerprint(process.output()),
+    }
+}
+
+/// How a process ended: by its own ending, or as the machine stopped it.
+fn end_of(own: Option<End>, ran: Ran) -> End
+    ensures { EndsLike result own }
+{
+    match own {
+        Some(end) => end,
+        None => End::Killed(ran.cause),
+    }
+}

@@ -186,6 +186,7 @@ pub mod rand_pcg {
     use super::rand_core::utils::NextWord;
 
     /// PCG XSH RR 64/32.
+    #[derive(Clone, Debug)]
     pub struct Pcg32 {
         state: u64,
         increment: u64,

@@ -52,13 +52,18 @@ pub enum ArgAction {
 pub struct Arg<'a> {
     id: &'a str,
     long: Option<&'a str>,
+    short: Option<char>,
     is_required: bool,
     action: ArgAction,
 }
 
 impl<'a> Arg<'a> {
     pub fn new(_: Global, id: &'a str) -> Self {
-        Arg { id, long: None, is_required: false, action: ArgAction::Set }
+        Arg { id, long: None, short: None, is_required: false, action: ArgAction::Set }
+    }
+
+    pub fn short(self, short: char) -> Self {
+        Arg { short: Some(short), ..self }
     }
 
     pub fn long(self, long: &'a str) -> Self {
@@ -74,10 +79,17 @@ impl<'a> Arg<'a> {
     }
 
     /// As a fault names it.
+    /// Whether a word names this option.
+    fn is_named(&self, word: &str) -> bool {
+        self.long.is_some_and(|long| word.strip_prefix("--") == Some(long))
+            || self.short.is_some_and(|short| word.strip_prefix('-').is_some_and(|it| it.chars().eq([short])))
+    }
+
     fn shown(&self) -> String {
         match (self.long, &self.action) {
             (Some(long), ArgAction::SetTrue) => format!("--{long}"),
             (Some(long), _) => format!("--{long} <{}>", self.id),
+            (None, _) if self.short.is_some() => format!("-{} <{}>", self.short.unwrap_or_default(), self.id),
             (None, ArgAction::Append) => format!("<{}>...", self.id),
             (None, _) => format!("<{}>", self.id),
         }
@@ -134,7 +146,7 @@ impl<'a> Command<'a> {
 
     fn matches_of(&self, words: &[&'a str]) -> Result<ArgMatches<'a>, Error> {
         let mut values: HashMap<&'a str, Vec<&'a str>> = HashMap::new();
-        let mut files = self.args.iter().filter(|it| it.long.is_none());
+        let mut files = self.args.iter().filter(|it| it.long.is_none() && it.short.is_none());
         let mut file = files.next();
         let (mut rest, mut are_files) = (words.iter(), false);
         while let Some(word) = rest.next() {
@@ -167,8 +179,7 @@ impl<'a> Command<'a> {
             return Err(help());
         }
         let (name, given) = word.split_once('=').map_or((word, None), |(name, value)| (name, Some(value)));
-        let long = name.strip_prefix("--");
-        let Some(arg) = self.args.iter().find(|it| it.long.is_some() && it.long == long) else {
+        let Some(arg) = self.args.iter().find(|it| it.is_named(name)) else {
             return wrong(format!("unexpected argument '{name}' found"));
         };
         if arg.action == ArgAction::SetTrue {

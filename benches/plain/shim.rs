@@ -827,6 +827,16 @@ pub mod vec {
         }
     }
 
+    impl std::io::Write for Vec<u8> {
+        fn write(&mut self, bytes: &[u8]) -> std::io::Result<usize> {
+            self.0.write(bytes)
+        }
+
+        fn flush(&mut self) -> std::io::Result<()> {
+            Ok(())
+        }
+    }
+
     impl<T> Deref for Vec<T> {
         type Target = std::vec::Vec<T>;
 
@@ -1362,6 +1372,43 @@ pub mod sha2 {
             }
             digest
         }
+    }
+}
+
+/// Hexadecimal digits.
+pub mod hex {
+    #[derive(Clone, Copy, Debug, PartialEq, Eq)]
+    pub enum FromHexError {
+        InvalidHexCharacter { c: char, index: usize },
+        InvalidStringLength,
+    }
+
+    pub fn encode_to_slice<T: AsRef<[u8]>>(input: T, output: &mut [u8]) -> Result<(), FromHexError> {
+        let input = input.as_ref();
+        if output.len() != 2 * input.len() {
+            return Err(FromHexError::InvalidStringLength);
+        }
+        for (digits, byte) in output.chunks_exact_mut(2).zip(input) {
+            digits.copy_from_slice(format!("{byte:02x}").as_bytes());
+        }
+        Ok(())
+    }
+
+    pub fn decode_to_slice<T: AsRef<[u8]>>(data: T, out: &mut [u8]) -> Result<(), FromHexError> {
+        let data = data.as_ref();
+        if data.len() != 2 * out.len() {
+            return Err(FromHexError::InvalidStringLength);
+        }
+        for (place, byte) in out.iter_mut().enumerate() {
+            *byte = 16 * digit(data, 2 * place)? + digit(data, 2 * place + 1)?;
+        }
+        Ok(())
+    }
+
+    fn digit(data: &[u8], index: usize) -> Result<u8, FromHexError> {
+        let c = data[index] as char;
+        let value = c.to_digit(16).ok_or(FromHexError::InvalidHexCharacter { c, index })?;
+        Ok(value as u8)
     }
 }
 

@@ -1,75 +1,73 @@
 """Drives `guest debug` behind a debugger for people or for gdb: its lines and replies as calls, and what the guest writes as it comes.
 
-What the guest writes is seen at its calls of the machine: each is a point of its own, at which the registers tell what is written.
+What the guest writes is seen at its calls of the machine: each is a point of its own, at which the registers tell what is written. Back it goes
+by another `guest debug`, which runs from the beginning along the turns that the run has had: guest_turns.py does that.
 """
 import os
 import re
-import signal
-import subprocess
+import shutil
 import sys
 import tempfile
 
 from guest_image import ECALL, TOP, Image
+from guest_record import Record
+from guest_turns import BY_TURNS, HARTS, Driven, Interrupted, Look, Refused, Told, Turns, line_of, never
+
 
 WRITE, PAGE = 64, 4096
-HARTS = 8
 MOST_POINTS = 32
 USER_POINTS = 8    # as many are left to the user at least
 MOST_WATCHED = 16
 PIECE = 500000    # steps, between which the caller may interrupt
 SINGLE_PIECE = 64    # the same of steps that are taken one by one
+NEAR = 500000    # steps that are looked at first for a point that was met; twice as far before a place wait those that may go back next
+WIDER = 32    # so much longer is the next stretch that is looked at
+SPARE = 2    # so many wait: one that may look, and one that goes where the look leads
+MOST_HARTS = 64    # steps of which the harts are asked at once
 TRAPS = {
     0: "a jump to an address that is no multiple of 4", 2: "a word that is no instruction of this machine", 3: "an ebreak",
     4: "a load from an address that is no multiple of its width", 6: "a store to an address that is no multiple of its width",
     12: "a jump to where no page may be executed", 13: "a load from where no page may be read",
     15: "a store to where no page may be written",
 }
-WHY = {1: "there are 32 points already", 2: "so many bytes can not be looked at, or do not end below 2^32", 3: "there is no such point",
-       4: "there is no such hart", 5: "the program has ended", 6: "no page is mapped there", 7: "the page was given back",
-       8: "a page could not be read back", 9: "memory is wanting"}
-
-
-class Refused(Exception):
-    """A line was refused, for the reason of this number."""
-
-    def __init__(self, number, words=None):
-        super().__init__(words or WHY.get(number, f"refused {number}"))
-        self.number = number
-
-
-class Gone(Exception):
-    """The program that is driven has ended, and said this."""
+WITH_FRAMES = "the way back is open only on flat memory: leave --frames away"
 
 
 class Stop:
-    """Why the program stopped: `break`, `watch`, `limit`, `interrupt`, `ended` or `absent`; at whose point, and after how many steps. The
-    hart is the one that stands at the break or wrote; else the one whose turn it is."""
+    """Why the program stopped: `break`, `watch`, `limit`, `interrupt`, `ended` or `absent`; `record` at the end of a record, `back` where a way
+    back has led, and `begin` where that is the beginning; at whose point, and after how many steps. The hart is the one that stands at the
+    break or wrote; else the one whose turn it is."""
 
     def __init__(self, why, hart, steps=0, address=None):
         self.why, self.hart, self.steps, self.address = why, hart, steps, address
 
 
-def never():
-    return False
-
-
 class Guest:
-    """A guest that is debugged. `told` takes what it writes."""
+    """A guest that is debugged. `told` takes what it writes. With a record the harts take the turns that it tells of."""
 
-    def __init__(self, image, frames=None, given=None, told=lambda content: None):
-        self.told, self.name, self.copy = told, image, None
-        words = os.environ.get("DEBUG_COMMAND", f"{TOP}/guest").split() + ["debug"]
-        words += ["--frames", str(frames)] if frames is not None else []
-        words += ["--input", self.file_of(given)] if given else []
-        self.complaints = tempfile.TemporaryFile()
-        self.run = subprocess.Popen([*words, image], stdin=subprocess.PIPE, stdout=subprocess.PIPE, stderr=self.complaints, text=True,
-                                    preexec_fn=lambda: signal.signal(signal.SIGINT, signal.SIG_IGN))    # Ctrl-C is ours
+    def __init__(self, image, frames=None, given=None, told=lambda content: None, record=None):
+        self.told, self.name, self.folder = told, image, tempfile.TemporaryDirectory()
+        given = self.file_of(given) if given else None
+        self.record = Record(record) if record else None
+        if self.record:
+            self.record.test(image, given)
+            if frames is not None:
+                raise ValueError("a record is replayed on flat memory: leave --frames away")
+        self.goes_back = frames is None
+        self.run = Driven(command(image, given, frames))
+        self.turns = self.record.turns if self.record else Turns()
+        self.spare = []    # others, which wait at earlier steps
+        self.looked = None    # what was met in a stretch that was looked at: the points, its first and its last step, and the list
+        self.known_harts = {}    # of steps by turns
         self.points = {}     # the user's: number of the point by ("break", address) or ("watch", address, length)
         self.calls = {}      # ours, by address
         self.addresses = {}  # by the number of a point
         self.steps, self.has_ended, self.turn = 0, False, 0
-        self.piece(0)    # where the image or the input is refused, it is told here
+        self.furthest = 0    # the step after which something was written that was told last
+        self.ask("run 0")    # where the image or the input is refused, it is told here
         self.image = Image(image)
+        if self.goes_back:
+            self.again = command(self.kept(image, "image"), self.kept(given, "input"))
         sites = self.image.ecalls()
         self.sees_output = len(sites) <= MOST_POINTS - USER_POINTS
         for address in sites if self.sees_output else []:
@@ -80,39 +78,20 @@ class Guest:
         name = os.path.realpath(given)
         if os.path.isfile(name):
             return name
-        with open(given, "rb") as it:
-            content = it.read()
-        self.copy = tempfile.NamedTemporaryFile()
-        self.copy.write(content)
-        self.copy.flush()
-        return self.copy.name
+        with open(given, "rb") as it, open(f"{self.folder.name}/given", "wb") as to:
+            shutil.copyfileobj(it, to)
+        return to.name
+
+    def kept(self, name, kind):
+        """A copy of a file, which stays as it is now."""
+        return name and shutil.copyfile(name, f"{self.folder.name}/{kind}")
 
     def ask(self, line, lines=1):
-        """The reply to a line. One that says `refused N` is an exception."""
-        try:
-            self.run.stdin.write(f"{line}\n")
-            self.run.stdin.flush()
-            replies = [self.run.stdout.readline()]
-        except BrokenPipeError:
-            replies = [""]
-        if replies[0].startswith("refused "):
-            raise Refused(int(replies[0].split()[1]))
-        replies += [self.run.stdout.readline() for _ in range(lines - 1)] if replies[0] else []
-        if not replies[-1]:
-            raise Gone(self.complaint())
-        return replies[0].strip() if lines == 1 else [it.strip() for it in replies]
-
-    def complaint(self):
-        """What the program that is driven said of its end."""
-        self.run.wait()
-        self.complaints.seek(0)
-        lines = self.complaints.read().decode(errors="replace").strip().splitlines()
-        return lines[0] if lines else "the debugger has ended"
+        return self.run.ask(line, lines)
 
     def close(self):
-        self.run.stdin.close()
-        self.run.terminate()
-        self.run.wait()
+        for it in (self.run, *self.spare):
+            it.close()
 
     # ---- looks
 
@@ -189,22 +168,59 @@ class Guest:
         return (x[11], x[12]) if self.image.word(x[32]) == ECALL and x[17] == WRITE else None
 
     def tell(self, hart, call):
-        """What was written by a call that is done: as many bytes as it answered."""
-        if call is None:
+        """What was written by a call that is done: as many bytes as it answered. What was told before is not told again."""
+        if call is None or self.steps <= self.furthest:
             return
+        self.furthest = self.steps
         count = self.regs(hart)[10]
         if 0 < count <= call[1]:
             self.told(self.memory(call[0], count))
 
-    def piece(self, limit, hart=None):
-        """Steps by turns, or of one hart alone, up to a point, ours or the user's, or so many."""
-        words = self.ask(f"run {limit}" if hart is None else f"go-hart {hart} {limit}").split()
-        told = dict(zip(words[-6::2], map(int, words[-5::2])))
-        why, self.turn = words[0], told["turn"]
-        self.steps += told["after"]
-        self.has_ended = self.has_ended or why == "ended"
-        address = self.addresses[int(words[1])] if why in ("break", "watch") else None
-        return Stop(why, told["last"] if why in ("watch", "ended") or hart is not None else self.turn, told["after"], address)
+    def moved(self, hart, count):
+        """So many steps were taken. What the run did from here on before, by other turns, is forgotten."""
+        if self.goes_back and not self.record:
+            other = self.turns.take(self.steps, hart, count)
+            if other is not None:
+                self.furthest = min(self.furthest, other)
+                self.known_harts = {step: hart for step, hart in self.known_harts.items() if step < other}
+                self.looked = None
+                self.keep_spare(lambda it: it.goal <= other)
+        self.steps += count
+        if self.record:
+            self.turn = self.next_hart(hart)
+
+    def piece(self, limit, hart=None, heeds=()):
+        """Steps by turns, or of one hart alone, up to a point, ours or the user's, or so many. A record's turns end a piece too."""
+        if self.record:
+            return self.piece_of_record(limit, heeds)
+        runs = BY_TURNS if hart is None else hart
+        told = Told(self.ask(line_of(runs, limit)))
+        self.turn = told.turn
+        self.moved(runs, told.steps)
+        return self.stop_of(told, told.last if told.why in ("watch", "ended") or hart is not None else self.turn)
+
+    def piece_of_record(self, limit, heeds):
+        """The same of a record. A hart stands at a break where it has its turn; one that is heeded also where its turn has just ended."""
+        if self.is_at_end():
+            return Stop("record", self.turn)
+        hart, left = self.turns.at(self.steps)
+        try:
+            told = Told(self.ask(line_of(hart, min(limit, left))))
+        except Refused:
+            raise self.other_record(f"hart {hart} is not live") from None
+        self.moved(hart, told.steps)
+        if told.why == "ended" and self.steps < self.turns.end:
+            raise self.other_record("the program has ended")
+        if told.why == "gone" and told.steps < min(limit, left):
+            raise self.other_record(f"hart {hart} has ended")
+        stop = self.stop_of(told, self.turn if told.why == "limit" else hart)
+        if stop.why == "gone" or stop.why == "break" and told.steps == left and (hart not in heeds or self.is_ours(stop)):
+            stop.why, stop.hart = "limit", self.turn
+        return stop
+
+    def stop_of(self, told, hart):
+        self.has_ended = self.has_ended or told.why == "ended"
+        return Stop(told.why, hart, told.steps, None if told.number is None else self.addresses[told.number])
 
     def pass_here(self):
         """One step by turns. The hart whose turn it is passes the points at which it stands; what it writes is told."""
@@ -226,13 +242,13 @@ class Guest:
         self.tell(hart, call)
         return stop
 
-    def go(self, limit=None, interrupted=never):
+    def go(self, limit=None, interrupted=never, heeds=()):
         """Steps by turns until a point of the user is met, so many are done, the program has ended, or the caller interrupts."""
         done = 0
         while limit is None or done < limit:
             if interrupted():
                 return Stop("interrupt", self.turn, done)
-            stop = self.piece(PIECE if limit is None else min(PIECE, limit - done))
+            stop = self.piece(PIECE if limit is None else min(PIECE, limit - done), heeds=heeds)
             done += stop.steps
             if self.is_ours(stop) and done != limit:
                 stop = self.pass_here()
@@ -245,9 +261,15 @@ class Guest:
     def is_ours(self, stop):
         return stop.why == "break" and not self.is_break(stop.address)
 
-    def step(self, hart, x=None):
-        """One instruction of a hart, whose turn it may not be; `x` are its registers, where they are known."""
-        x, before = x or self.regs(hart), self.watched()
+    def step(self, hart, x=None, interrupted=never):
+        """One instruction of a hart, whose turn it may not be; `x` are its registers, where they are known. By a record the harts whose turns
+        are before it have these first."""
+        begun = self.steps
+        if self.record:
+            stop = self.wait_for_turn(hart, interrupted)
+            if stop:
+                return stop
+        x, before, runs = x or self.regs(hart), self.watched(), self.turn_of(hart)
         try:
             if self.ask(f"step {hart}") == "absent":
                 return Stop("absent", hart)
@@ -256,13 +278,32 @@ class Guest:
                 raise
             self.has_ended = True
             return Stop("ended", hart)
-        self.steps += 1
+        self.moved(runs, 1)
         self.tell(hart, self.call_at(x))
         is_call = self.image.word(x[32]) == ECALL
         if (is_call or self.regs(hart)[32] == x[32]) and self.ending():    # a trap leaves the hart where it stands
-            return Stop("ended", hart, 1)
+            return Stop("ended", hart, self.steps - begun)
         changed = next((it[1] for it, now in self.watched().items() if now != before[it]), None)
-        return Stop("limit", hart, 1) if changed is None else Stop("watch", hart, 1, changed)
+        done = self.steps - begun
+        return Stop("limit", hart, done) if changed is None else Stop("watch", hart, done, changed)
+
+    def turn_of(self, hart):
+        """How a step of a hart is kept: where it has its turn, it is one by turns."""
+        if self.record or not self.goes_back:
+            return hart
+        self.piece(0)
+        return BY_TURNS if self.turn == hart else hart
+
+    def wait_for_turn(self, hart, interrupted):
+        """A record's steps up to the next one of a hart. A stop, where something comes before it."""
+        while not self.is_at_end():
+            runs, left = self.turns.at(self.steps)
+            if runs == hart:
+                return None
+            stop = self.go(left, interrupted)
+            if stop.why != "limit":
+                return stop
+        return Stop("record", hart)
 
     def go_alone(self, hart, limit, interrupted):
         """Steps of one hart while the others stay: the same reasons to stop, and that it is live no more."""
@@ -318,6 +359,177 @@ class Guest:
             if stop.why != "limit":
                 return stop
         return None
+
+    # ---- the way back
+
+    def is_at_end(self):
+        """Whether a record has no step more."""
+        return bool(self.record) and self.steps == self.turns.end
+
+    def steps_before_exit(self):
+        """How many steps a record has before the one with which the program exits; 0 where it does not exit, or stands there."""
+        exits = self.record.ending and self.record.ending[0] == "exited"
+        return max(self.turns.end - 1 - self.steps, 0) if exits else 0
+
+    def next_hart(self, default):
+        """Whose step the next one was, where that is known."""
+        hart = self.turns.at(self.steps)[0] if self.steps < self.turns.end else BY_TURNS
+        return default if hart == BY_TURNS else hart
+
+    def other_record(self, words):
+        return Refused(0, f"{self.record.name} is no record of this run: after {self.steps} steps {words}")
+
+    def tells_other_ending(self):
+        """Whether the program stands at the end of a record, and has not ended as that tells."""
+        return self.is_at_end() and self.ending() != self.record.ending
+
+    def back(self, count, interrupted=never):
+        """To the state so many steps before."""
+        if not self.goes_back:
+            raise Refused(0, WITH_FRAMES)
+        if count > self.steps:
+            raise Refused(0, f"there are only {self.steps} steps before this place" if self.steps else "this is the beginning: there is no step before it")
+        return self.seek(self.steps - count, "back", interrupted)
+
+    def back_to_stop(self, undoes=False, interrupted=never):
+        """To the last place before this one at which a point stops a run, or to the beginning. With `undoes` that of a watch is the place
+        before the step that changes it."""
+        if not self.goes_back:
+            raise Refused(0, WITH_FRAMES)
+        try:
+            met = self.last_met(self.steps if undoes else self.steps - 1, interrupted) if self.points else None
+        except Interrupted:
+            return Stop("interrupt", self.turn)
+        if met is None:
+            return self.seek(0, "begin", interrupted)
+        stop = self.seek(met.steps - (undoes and met.why == "watch"), met.why, interrupted)
+        if stop.why != "interrupt":
+            stop.hart, stop.address = met.hart, met.address
+        return stop
+
+    def back_of(self, hart, interrupted=never):
+        """To the place before the last step of a hart, or to the beginning, where it has taken none."""
+        if not self.goes_back:
+            raise Refused(0, WITH_FRAMES)
+        try:
+            step = self.step_before(hart, interrupted)
+        except Interrupted:
+            return Stop("interrupt", self.turn)
+        before = self.watched()
+        stop = self.seek(step or 0, "begin" if step is None else "back", interrupted)
+        stop.hart = self.turn if step is None else hart
+        changed = next((it[1] for it, now in self.watched().items() if now != before[it]), None)
+        return stop if changed is None or stop.why != "back" else Stop("watch", hart, 0, changed)
+
+    def seek(self, step, why, interrupted):
+        """To an earlier state of this run, which is the present one from then on."""
+        if step < self.steps:
+            try:
+                there = self.arrived(step, interrupted)
+            except Interrupted:
+                return Stop("interrupt", self.turn)
+            self.run.close()
+            self.run, self.steps, self.has_ended = there, step, False
+            self.set_points()
+            self.piece(0)    # whose turn it is
+            self.set_out_spare(step, SPARE)
+        return Stop(why, self.next_hart(self.turn))
+
+    def set_points(self):
+        """The points, in a process that has none."""
+        self.addresses = {}
+        for address in self.calls:
+            self.calls[address] = self.add(f"break {address}")
+        for point in self.points:
+            self.points[point] = self.add(" ".join(map(str, point)))
+
+    def keep_spare(self, holds):
+        for it in self.spare:
+            if not holds(it):
+                it.close()
+        self.spare = [it for it in self.spare if holds(it)]
+
+    def arrived(self, step, interrupted, looks=False):
+        """One that has gone to a step: of those that wait the nearest before it, or a new one. Where it only looks, another one goes with it."""
+        self.keep_spare(lambda it: it.goal <= step)
+        nearest = max(self.spare, key=lambda it: it.goal, default=None)
+        self.keep_spare(lambda it: it is nearest or step - it.goal <= WIDER * NEAR)
+        going = nearest or Driven(self.again)
+        self.spare = [it for it in self.spare if it is not going]
+        going.set_out(self.turns, step)
+        if looks:
+            self.set_out_spare(step, 1)
+        going.arrive(interrupted)
+        return going
+
+    def set_out_spare(self, step, count):
+        """Those set out that are missing among so many which wait before a step."""
+        while step > 2 * NEAR and len(self.spare) < count:
+            self.spare.append(Driven(self.again))
+            self.spare[-1].set_out(self.turns, step - 2 * NEAR)
+
+    def last_met(self, end, interrupted):
+        """The last point that the run met up to a step. Looks at the last stretch before it first, then at longer ones; of one with many
+        points at its beginning, and then at what is left."""
+        low, high, width, best, look = 0, end, NEAR, None, None
+        if self.looked and self.looked[0] == frozenset(self.points) and self.looked[1] <= end <= self.looked[2]:
+            high = self.looked[1]
+            known = [it for it in self.looked[3] if it.steps <= end and (it.why == "watch" or it.steps < self.steps)]
+            if known:
+                return known[-1]
+        try:
+            while low < high:
+                start = max(low, high - width)
+                if look and look.driven.steps <= start:
+                    look.begin_at(start, interrupted)
+                else:
+                    look = self.look_from(start, look, interrupted)
+                look.run(high, interrupted)
+                if not look.met:
+                    high, width = start, width * WIDER
+                elif look.driven.steps == high:
+                    self.looked = (frozenset(self.points), look.first, high, look.met)
+                    return look.met[-1]
+                else:
+                    best, low = look.met[-1], look.driven.steps
+                    width = max(1, (high - low) // 2)
+            return best
+        finally:
+            if look:
+                look.driven.close()
+
+    def look_from(self, start, before, interrupted):
+        if before:
+            before.driven.close()
+        return Look(self.arrived(start, interrupted, looks=True), self.turns, self.points, self.steps)
+
+    def step_before(self, hart, interrupted):
+        """The last step of a hart before this place, or None. By turns each hart that is live has one among so many as there are harts."""
+        for runs, first, last in self.turns.pieces_before(self.steps):
+            if runs == hart:
+                return last - 1
+            if runs == BY_TURNS:
+                found = next((it for it in range(last - 1, max(first, last - HARTS) - 1, -1) if self.hart_of(it, first, interrupted) == hart), None)
+                if found is not None or last - first >= HARTS:
+                    return found
+        return None
+
+    def hart_of(self, step, first, interrupted):
+        """The hart of a step by turns, of which there are some from a first one on. Those before it are kept too."""
+        if step not in self.known_harts:
+            begin = max(first, step + 1 - MOST_HARTS)
+            look = self.arrived(begin, interrupted, looks=True)
+            harts = [Told(it).last for it in look.asks(["run 1"] * (step + 1 - begin))]
+            look.close()
+            self.known_harts.update(zip(range(begin, step + 1), harts))
+        return self.known_harts[step]
+
+
+def command(image, given, frames=None):
+    """The words that begin a debugger."""
+    words = os.environ.get("DEBUG_COMMAND", f"{TOP}/guest").split() + ["debug"]
+    words += ["--frames", str(frames)] if frames is not None else []
+    return [*words, *(["--input", given] if given else []), image]
 
 
 def parse_end(line):

@@ -1,5 +1,5 @@
 -- Steps that neither call nor trap are steps of their process, and leave all but a hart's registers and the memory.
-use Rattle.std.proofs.Common.{◌≡◌, ◌<◌, ℕ, zero, suc, true, slice_get, slice_set, slice_index_or, List, Option, Some, None, Result, Ok, Err, IfErr, option_and_then, unwrap_or, ap, ◌∙◌, refl, sym, subst, length-set}
+use Rattle.std.proofs.Common.{◌≡◌, ◌<◌, ℕ, zero, suc, true, slice_get, slice_set, slice_index_or, List, replicate, Option, Some, None, Result, Ok, Err, IfErr, option_and_then, unwrap_or, ap, ◌∙◌, refl, sym, subst, length-set}
 use Rattle.std.proofs.lemmas.Option.{slice_get-get_or, none-some}
 use Rattle.std.proofs.lemmas.List.{set-get_or, get_or-set_same}
 use Rattle.page_memory.specs.Memory.{Memory}
@@ -17,9 +17,9 @@ use Rattle.env_calls.specs.Finishing.{rest_effect, RestUses}
 use Rattle.env_calls.specs.Serving.{UsesPages}
 use Rattle.env_calls.specs.Step.{effect}
 use Rattle.env_calls.specs.StepLaws.{effect_next, effect_call, effect_traps}
-use Rattle.flat_machine.specs.Process.{Process, IsWhole, hart_registers, may_step, with_hart, flat_step}
+use Rattle.flat_machine.specs.Process.{Process, IsWhole, hart_registers, may_step, with_hart, flat_step, flat_run}
 use Rattle.flat_machine.specs.ByTurns.{by_turns, turn_after}
-use Rattle.flat_machine.specs.RunLaws.{by_turns_none}
+use Rattle.flat_machine.specs.RunLaws.{by_turns_none, flat_run_none, one_more_step}
 use Rattle.flat_machine.specs.PlainRun.{plain_step, plain_run, StopsAs, StopsNext}
 use Rattle.flat_machine.specs.PlainRunLaws.{next_is, both_are, its_line, one_step}
 use Rattle.flat_machine.specs.StepLaws.{started, step_is}
@@ -61,6 +61,23 @@ none_plainly n hart process first registers memory zero_steps are ran =
     let same = both_are first registers process.memory memory (ap (λ k. plain_run hart k first process.memory) (sym zero_steps) ∙ ran) in
     let harts : slice_set process.harts hart registers ≡ process.harts = ap (slice_set process.harts hart) (sym same.0 ∙ are) ∙ set-get_or process.harts hart first in
     (λ i. record { harts = harts i; environment = process.environment; memory = sym same.1 i; ending = process.ending })
+
+-- the same as a run of the hart
+pub run_plainly : (n hart : ℕ) (process : Process) (first registers : Registers) (memory : Memory)
+    → IsWhole process → may_step hart process ≡ true → first ≡ slice_index_or process.harts hart first
+    → plain_run hart n first process.memory ≡ Some (registers, memory) → flat_run (replicate n hart) process ≡ Some (with_hart hart registers process.environment memory process)
+unfolding plain_run
+run_plainly zero hart process first registers memory whole may are ran = flat_run_none process ∙ ap Some (sym (none_plainly 0 hart process first registers memory refl are ran))
+run_plainly (suc n) hart process first registers memory whole may are ran =
+    elim (plain_run hart n first process.memory) as (λ o. plain_run hart n first process.memory ≡ o → option_and_then (plain_step hart) o ≡ Some (registers, memory)
+    → flat_run (replicate (suc n) hart) process ≡ Some (with_hart hart registers process.environment memory process)) [
+      | None ↦ λ _ never. absurd (none-some _ never)
+      | Some now ↦ λ before last.
+          ap (λ k. flat_run (replicate k hart) process) (next_is n)
+          ∙ one_more_step n hart process (with_hart hart now.0 process.environment now.1 process) (with_hart hart registers process.environment memory process)
+          (run_plainly n hart process first now.0 now.1 whole may are before)
+          (one_step hart process now.0 now.1 registers memory whole may (its_line (line hart now.0 now.1) registers memory last))
+    ] refl ran
 
 -- one step is the hart's
 pub one_plainly : (n hart : ℕ) (process : Process) (first registers : Registers) (memory : Memory) → n ≡ 1 → IsWhole process → may_step hart process ≡ true → first ≡ slice_index_or process.harts hart first

@@ -1,5 +1,5 @@
 -- Whose turn it is, and runs by turns put together.
-use Rattle.std.proofs.Common.{◌≡◌, ◌+◌, ℕ, true, Option, Some, None, IsSome, unwrap_or, ap, ◌∙◌, sym, true≢false}
+use Rattle.std.proofs.Common.{◌≡◌, ◌+◌, ℕ, true, Option, Some, None, IsSome, Result, Ok, Err, IfOk, unwrap_or, ap, ◌∙◌, sym, true≢false}
 use Rattle.env_calls.specs.Environment.{next_live}
 use Rattle.env_calls.specs.LiveLaws.{next_is_live, next_is_some}
 use Rattle.flat_machine.specs.Process.{Process, IsWhole, is_live, flat_step}
@@ -41,6 +41,12 @@ next_turn n hart turn then before between after ran step is = by_turns_more n ha
 pub more_turns : (n m hart turn then : ℕ) (before between after : Process) → by_turns n hart before ≡ Some (turn, between) → by_turns m turn between ≡ Some (then, after)
     → by_turns (n + m) hart before ≡ Some (then, after)
 more_turns n m hart turn then before between after ran more = by_turns_append n m hart turn before between ran ∙ more
+
+-- a run from whose turn it is at first
+pub ran_from : {E : Type 0} (result : Result ℕ E) (turn first then : ℕ) (before after : Process) → turn ≡ first → IfOk result (λ steps. by_turns steps turn before ≡ Some (then, after))
+    → IfOk result (λ steps. (last : ℕ) × (by_turns steps first before ≡ Some (last, after)))
+ran_from (Ok steps) turn first then before after is ran = (then, ap (λ t. by_turns steps t before) (sym is) ∙ ran)
+ran_from (Err stop) turn first then before after is ran = tt
 
 -- memory is wanted for the next step
 pub wants_now : (hart : ℕ) (process : Process) → WantsMemory hart process → WantsAt hart process 0 process

@@ -32,6 +32,11 @@ flat_run_append (x ∷ xs) ys before between e =
 pub flat_run_more : (xs : List ℕ) (hart : ℕ) (before between after : Process) → flat_run xs before ≡ Some between → flat_step hart between ≡ Some after → flat_run (xs ++ hart ∷ []) before ≡ Some after
 flat_run_more xs hart before between after ran step = flat_run_append xs (hart ∷ []) before between ran ∙ flat_run_one hart between after step
 
+-- more steps of a hart
+pub more_steps : (k n hart : ℕ) (before between after : Process) → flat_run (replicate k hart) before ≡ Some between → flat_run (replicate n hart) between ≡ Some after → flat_run (replicate (k + n) hart) before ≡ Some after
+more_steps k n hart before between after ran more =
+    ap (λ l. flat_run l before) (sym (replicate-append-replicate k n hart)) ∙ flat_run_append (replicate k hart) (replicate n hart) before between ran ∙ more
+
 -- one more step of a hart
 pub one_more_step : (k hart : ℕ) (before between after : Process) → flat_run (replicate k hart) before ≡ Some between → flat_step hart between ≡ Some after → flat_run (replicate (k + 1) hart) before ≡ Some after
 one_more_step k hart before between after ran step =

@@ -28,6 +28,10 @@ marked_within (mark ∷ live) (suc hart) e = let rest = marked_within live hart 
 pub has_no_ending : (hart : ℕ) (process : Process) → may_step hart process ≡ true → process.ending ≡ None
 has_no_ending hart process may_step_when_live = no_ending process.ending (both (is_none process.ending) (is_live hart process) may_step_when_live).0
 
+-- it is live
+pub is_live_in : (hart : ℕ) (process : Process) → may_step hart process ≡ true → is_live hart process ≡ true
+is_live_in hart process may = (both (is_none process.ending) (is_live hart process) may).1
+
 -- it was started
 pub started : (hart : ℕ) (process : Process) → IsWhole process → may_step hart process ≡ true → hart < length process.harts
 started hart process whole may_step_when_live =

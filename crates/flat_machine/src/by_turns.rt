@@ -1,6 +1,6 @@
 //! Runs a process on flat memory by turns of its live harts, up to a number of steps.
 
-ghost use Rattle.std.specs.Prelude.{◌≡◌, ◌<◌, ◌≤◌, ℕ, Some, true, IsSome, IfOk, IfErr};
+ghost use Rattle.std.specs.Prelude.{◌≡◌, ◌<◌, ◌≤◌, ℕ, Some, true, IsSome, IfOk, IfErr, OnErr};
 ghost use Rattle.env_calls.specs.Environment.{next_live};
 ghost use Rattle.flat_machine.specs.Process.{is_live, may_step};
 ghost use Rattle.flat_machine.specs.ByTurns.{by_turns, first_turn, turn_after};
@@ -32,13 +32,28 @@ impl FlatProcess {
         ensures memory { IfErr result (λ stop. (stop.steps < limit) ×
             WantsAt (first_turn self.old) self.old stop.steps self.new) }
     {
+        let mut turn = self.first_turn();
+        self.run_turns(&mut turn, limit)
+    }
+
+    /// Steps the hart whose turn it is, which is live, then the next, until the process has ended or so many steps are done,
+    /// and reports how many that was. Where memory is wanting, the steps before remain.
+    pub fn run_turns(&mut self, turn: &mut u32, most: u64) -> Result<u64, OutOfMemory>
+        requires live { is_live turn.old self.old ≡ true }
+        ensures ran { IfOk result (λ steps.
+            by_turns steps turn.old self.old ≡ Some (turn.new, self.new)) }
+        ensures within { IfOk result (λ steps. steps ≤ most) }
+        ensures ended { IfOk result (λ steps. steps < most → IsSome self.new.ending) }
+        ensures memory { IfErr result (λ stop. (stop.steps < most) ×
+            WantsAt turn.old self.old stop.steps self.new) }
+        ensures live { is_live turn.new self.new ≡ true }
+    {
         let mut steps: u64 = 0;
-        let mut hart = self.first_turn();
-        while steps < limit {
+        while steps < most {
             if self.end.is_some() {
                 return Ok(steps);
             }
-            match self.run_turn(hart, limit - steps) {
+            match self.run_turn(*turn, most - steps) {
                 Ok(more) => steps += more,
                 Err(stop) => {
                     return Err(OutOfMemory {
@@ -46,7 +61,7 @@ impl FlatProcess {
                     });
                 }
             }
-            hart = self.turn_after(hart);
+            *turn = self.turn_after(*turn);
         }
         Ok(steps)
     }
@@ -60,6 +75,7 @@ impl FlatProcess {
         ensures within { IfOk result (λ steps. (0 < steps) × (steps ≤ most)) }
         ensures memory { IfErr result (λ stop. (stop.steps < most) ×
             WantsAt hart self.old stop.steps self.new) }
+        ensures live { OnErr result (is_live hart self.new ≡ true) }
     {
         if self.turn_after(hart) == hart {
             self.run_alone(hart, most)
@@ -81,6 +97,7 @@ impl FlatProcess {
         ensures within { IfOk result (λ steps. steps ≤ most) }
         ensures memory { IfErr result (λ stop. (stop.steps < most) ×
             WantsAt hart self.old stop.steps self.new) }
+        ensures live { OnErr result (is_live hart self.new ≡ true) }
     {
         let mut steps: u64 = 0;
         while steps < most {

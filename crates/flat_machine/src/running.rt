@@ -8,6 +8,7 @@ ghost use Rattle.flat_machine.specs.Schedule.{written_out};
 use crate::process::FlatProcess;
 use crate::schedule::Schedule;
 use crate::stepping::StepRefusal;
+use std::alloc::AllocError;
 
 impl FlatProcess {
     /// Runs a schedule. It stops at the first step that is refused, and reports how many were done: those
@@ -34,9 +35,22 @@ impl FlatProcess {
             (flat_run (replicate stop.1 hart) self.old ≡ Some self.new) ×
             RefusesStep stop.0 hart self.new) }
     {
-        for done in 0..count {
-            if let Err(refusal) = self.step(hart) {
-                return Err((refusal, done));
+        let mut done: u32 = 0;
+        while done < count {
+            if self.end.is_some() {
+                return Err((StepRefusal::Ended, done));
+            }
+            if !self.env.is_live(hart) {
+                return Err((StepRefusal::NoHart, done));
+            }
+            let course = self.step_plainly(hart, u64::from(count - done));
+            done += course.done as u32;
+            if done == count {
+                return Ok(());
+            }
+            match self.end_step(hart, course.last) {
+                Ok(_) => done += 1,
+                Err(AllocError) => return Err((StepRefusal::NoMemory, done)),
             }
         }
         Ok(())

@@ -121,6 +121,14 @@ impl Schedule {
         self.turns.as_slice()
     }
 
+    /// The turns, first to last, to be kept.
+    pub fn into_turns(self) -> Vec<Turn>
+        ensures turns { result.items ≡ self }
+        ensures joined { IsJoined self }
+    {
+        self.turns
+    }
+
     /// Makes the last turn, which is the hart's, so much longer.
     fn lengthen(&mut self, hart: u32, count: u32)
         requires fit { count ≤ rest_in_last self.old hart }

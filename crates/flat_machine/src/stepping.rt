@@ -1,11 +1,11 @@
 //! One step of a hart on flat memory, and its refusals; also many plain instructions in a row.
 
-ghost use Rattle.std.specs.Prelude.{◌≡◌, ◌<◌, ◌≤◌, Err, Some, None, true, OnOk, OnErr, IfOk, IfErr};
+ghost use Rattle.std.specs.Prelude.{◌≡◌, ◌<◌, ◌≤◌, Err, Some, None, true, OnOk, OnErr, IfOk, IfErr, replicate};
 ghost use Rattle.rv_exec.specs.Line.{line};
 ghost use Rattle.env_calls.specs.Serving.{TakesMemory};
 ghost use Rattle.env_calls.specs.Step.{effect};
 ghost use Rattle.env_calls.specs.Stepping.{IsEffect, Stays};
-ghost use Rattle.flat_machine.specs.Process.{may_step, flat_step};
+ghost use Rattle.flat_machine.specs.Process.{may_step, flat_run, flat_step};
 ghost use Rattle.flat_machine.specs.ByTurns.{by_turns, turn_after};
 ghost use Rattle.flat_machine.specs.PlainRun.{StopsAs, StopsNext};
 ghost use Rattle.flat_machine.specs.Refusals.{RefusesStep, WantsMemory};
@@ -85,6 +85,7 @@ impl FlatProcess {
         ensures one { result.done ≡ 1 → flat_step hart self.old ≡ Some self.new }
         ensures alone { turn_after hart self.old ≡ hart → by_turns result.done hart self.old ≡
             Some (hart, self.new) }
+        ensures ran { flat_run (replicate result.done hart) self.old ≡ Some self.new }
         ensures stopped { result.done < most → StopsNext hart result.last self.new }
         ensures same { (self.new.ending ≡ None) ×
             (self.new.environment.live ≡ self.old.environment.live) }

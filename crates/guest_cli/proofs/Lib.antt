@@ -2,4 +2,3 @@ pub mod CountedSteps
 pub mod OutputGrows
 pub mod OutputPieces
 pub mod Pieces
-pub mod WholeInput

@@ -1,17 +1,14 @@
 -- What `guest run` answers.
-use Rattle.std.specs.Prelude.{◌≡◌, ℕ, List, IfSome, Option, None, Some}
+use Rattle.std.specs.Prelude.{◌≡◌, ℕ, List, Option, None, Some}
 use Rattle.elf_image.specs.Image.{ImageContent}
 use Rattle.elf_image.specs.Start.{Start, start_of}
 use Rattle.flat_machine.specs.Process.{Process, opening}
 use Rattle.flat_machine.specs.declared.end.End.{End}
 use Rattle.image_files.specs.Reading.{GivesImage}
+use Rattle.guest_io.specs.GuestStatus.{guest_status}
+use Rattle.guest_io.specs.WholeInputs.{AreWhole}
 use Rattle.guest_cli.specs.FlatRuns.{TellsFlatRun}
-use Rattle.guest_cli.specs.GuestStatus.{guest_status}
 use Rattle.guest_cli.specs.TurnRuns.{TellsTurns}
-
--- all bytes of an input, where those are known
-abbrev pub AreWhole : Option (List ℕ) → List ℕ → Type 0
-AreWhole known bytes = IfSome known (λ all. bytes ≡ all)
 
 -- `runs` tells what a machine of so many frames may make of a program, up to so many steps: the ending, and behind how many steps
 module _ (runs : ℕ → ℕ → Start → End → ℕ → Type 0) where

@@ -2,5 +2,4 @@ pub mod Answered
 pub mod BegunSteps
 pub mod CountedRuns
 pub mod FlatRuns
-pub mod GuestStatus
 pub mod TurnRuns

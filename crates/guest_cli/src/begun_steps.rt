@@ -3,8 +3,8 @@
 ghost use Rattle.std.specs.Prelude.{IfOk};
 ghost use Rattle.guest_cli.specs.BegunSteps.{BeginsSteps};
 
-use crate::input::read_whole;
 use flat_machine::FlatProcess;
+use guest_io::read_whole;
 use guest_steps::StepString;
 use image_files::{Fault, Folder, read_image};
 use std::io::Read;

@@ -10,7 +10,9 @@ pub(crate) fn guest<'a>(alloc: Global) -> Result<Command<'a>, AllocError> {
     let app = with(Ok(app), run(alloc));
     let app = with(app, trace(alloc));
     let app = with(app, profile(alloc));
-    with(app, debug(alloc))
+    let app = with(app, debug(alloc));
+    let app = with(app, replay(alloc));
+    with(app, explore(alloc))
 }
 
 /// The program with another command, where both could be made.
@@ -47,6 +49,24 @@ fn debug<'a>(alloc: Global) -> Result<Command<'a>, AllocError> {
     let command = Ok(Command::new(alloc, "debug"));
     let command = with_arg(command, option(alloc, "frames"));
     image(alloc, with_arg(command, option(alloc, "input")))
+}
+
+fn replay<'a>(alloc: Global) -> Result<Command<'a>, AllocError> {
+    let command = Ok(Command::new(alloc, "replay"));
+    image(
+        alloc,
+        with_arg(command, Arg::new(alloc, "record").required(true)),
+    )
+}
+
+fn explore<'a>(alloc: Global) -> Result<Command<'a>, AllocError> {
+    let command = Ok(Command::new(alloc, "explore"));
+    let command = with_arg(command, option(alloc, "runs"));
+    let command = with_arg(command, option(alloc, "seed"));
+    let command = with_arg(command, option(alloc, "until"));
+    let command = with_arg(command, option(alloc, "limit"));
+    let command = with_arg(command, option(alloc, "save"));
+    image(alloc, with_arg(command, flag(alloc, "csv")))
 }
 
 /// The command with the image that it runs.

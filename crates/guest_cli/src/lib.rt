@@ -8,7 +8,6 @@ mod debug_command;
 mod frame_machine;
 mod function_names;
 mod functions;
-mod input;
 mod profile_command;
 mod profile_tables;
 mod profile_text;
@@ -17,10 +16,8 @@ mod request;
 mod requests;
 mod run_command;
 mod step_line;
-mod told_end;
 mod trace_command;
 mod wrong;
 
 pub use frame_machine::FrameMachine;
 pub use program::run_guest;
-pub use told_end::status_of;

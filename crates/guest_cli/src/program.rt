@@ -9,17 +9,18 @@ use crate::run_command::run_run;
 use crate::trace_command::run_trace;
 use crate::wrong::Wrong;
 use image_files::{Fault, Folder};
+use record_commands::{run_explore, run_replay};
 use std::convert::AsStr;
 use std::io::{Read, Write};
 
 /// The exit status where a fault stopped the command.
 const FAULT: u8 = 2;
 
-/// The same of `run` and `profile`, whose other statuses are the guest's.
+/// The same of `run`, `profile` and `replay`, whose other statuses are the guest's.
 const FAULT_OF_RUN: u8 = 126;
 
-/// Runs the program on the words behind its name, and answers its exit status: that of the guest for `run` and `profile`, else 0; for a
-/// fault, which is told on `err`, 2, and 126 for these two.
+/// Runs the program on the words behind its name, and answers its exit status: that of the guest for `run`, `profile` and `replay`, else 0;
+/// for a fault, which is told on `err`, 2, and 126 for these three.
 pub fn run_guest<R, M, S, I, O, E>(
     rt: &R,
     machine: &M,
@@ -51,7 +52,7 @@ where
 /// The exit status where a fault stops the command of these words.
 fn failed_status<S: AsStr>(words: &[S]) -> u8 {
     match words.first() {
-        Some(word) if matches!(word.as_str(), "run" | "profile") => FAULT_OF_RUN,
+        Some(word) if matches!(word.as_str(), "run" | "profile" | "replay") => FAULT_OF_RUN,
         _ => FAULT,
     }
 }
@@ -73,7 +74,7 @@ where
     E: Write,
 {
     let request = read_request(rt.alloc(), words)?;
-    Ok(run_request(rt, machine, request, input, out, err)?)
+    run_request(rt, machine, request, input, out, err)
 }
 
 fn run_request<'a, R, M, I, O, E>(
@@ -83,7 +84,7 @@ fn run_request<'a, R, M, I, O, E>(
     input: I,
     out: &mut O,
     err: &mut E,
-) -> Result<u8, Fault<'a>>
+) -> Result<u8, Wrong<'a>>
 where
     R: Folder + AllocGlobal,
     M: FrameMachine,
@@ -91,12 +92,14 @@ where
     O: Write,
     E: Write,
 {
-    match request {
-        Request::Run(request) => run_run(rt, machine, request, input, out, err),
-        Request::Trace(request) => run_trace(rt, request, input, out),
-        Request::Profile(request) => run_profile(rt, request, input, out, err),
-        Request::Debug(request) => run_debug(rt, machine, request, input, out),
-    }
+    Ok(match request {
+        Request::Run(request) => run_run(rt, machine, request, input, out, err)?,
+        Request::Trace(request) => run_trace(rt, request, input, out)?,
+        Request::Profile(request) => run_profile(rt, request, input, out, err)?,
+        Request::Debug(request) => run_debug(rt, machine, request, input, out)?,
+        Request::Replay(request) => run_replay(rt, request, input, out, err)?,
+        Request::Explore(request) => run_explore(rt, request, input, out)?,
+    })
 }
 
 /// Tells what is wrong. Where that can't be written either, the status alone tells it.

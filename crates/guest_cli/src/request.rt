@@ -3,6 +3,8 @@
 ghost use Rattle.std.specs.Prelude.{◌≤◌};
 ghost use Rattle.std.specs.Option.{ForSome};
 
+use record_commands::{ExploreRequest, ReplayRequest};
+
 /// What is asked for on the command line.
 #[derive(Clone, Copy, Debug)]
 pub(crate) enum Request<'a> {
@@ -10,6 +12,8 @@ pub(crate) enum Request<'a> {
     Trace(TraceRequest<'a>),
     Profile(ProfileRequest<'a>),
     Debug(DebugRequest<'a>),
+    Replay(ReplayRequest<'a>),
+    Explore(ExploreRequest<'a>),
 }
 
 /// Run a program on standard input.

@@ -8,12 +8,20 @@ use crate::wrong::{BadNumber, Wrong};
 use clap::ArgMatches;
 use clap::error::ErrorKind;
 use image_files::Fault;
+use record_commands::{ExploreRequest, ReplayRequest};
 use std::alloc::Global;
 use std::convert::AsStr;
 use text_lines::numeral;
 
 /// How many rows a table of a profile has where no number is asked for.
 const USUAL_ROWS: u32 = 20;
+
+/// How many runs `explore` does where no number is asked for, the first seed, and after how many steps it ends a run.
+const USUAL_RUNS: u32 = 100;
+
+const USUAL_SEED: u32 = 1;
+
+const USUAL_LIMIT: u64 = 1_000_000;
 
 /// The request that the words behind the program's name make.
 pub(crate) fn read_request<'a, S: AsStr>(
@@ -32,6 +40,8 @@ fn request_of<'a>(matches: &ArgMatches<'a>) -> Result<Request<'a>, BadNumber<'a>
         Some(("run", matches)) => Ok(Request::Run(run_request(matches)?)),
         Some(("trace", matches)) => Ok(Request::Trace(trace_request(matches)?)),
         Some(("profile", matches)) => Ok(Request::Profile(profile_request(matches)?)),
+        Some(("replay", matches)) => Ok(Request::Replay(replay_request(matches))),
+        Some(("explore", matches)) => Ok(Request::Explore(explore_request(matches)?)),
         Some((_, matches)) => Ok(Request::Debug(debug_request(matches)?)),
         None => Ok(Request::Debug(debug_request(matches)?)),
     }
@@ -96,9 +106,33 @@ fn debug_request<'a>(matches: &ArgMatches<'a>) -> Result<DebugRequest<'a>, BadNu
     })
 }
 
-/// The image's name, without which words make no request.
+fn replay_request<'a>(matches: &ArgMatches<'a>) -> ReplayRequest<'a> {
+    ReplayRequest {
+        record: word(matches, "record"),
+        image: image(matches),
+    }
+}
+
+fn explore_request<'a>(matches: &ArgMatches<'a>) -> Result<ExploreRequest<'a>, BadNumber<'a>> {
+    Ok(ExploreRequest {
+        runs: number(matches, "runs", 1, u32::MAX)?.unwrap_or(USUAL_RUNS),
+        seed: number(matches, "seed", 0, u32::MAX)?.unwrap_or(USUAL_SEED),
+        until: number(matches, "until", 1, u32::MAX)?,
+        limit: steps_or(matches, "limit", USUAL_LIMIT)?,
+        folder: matches.get_str("save"),
+        is_csv: is_given(matches, "csv"),
+        image: image(matches),
+    })
+}
+
+/// The image's name.
 fn image<'a>(matches: &ArgMatches<'a>) -> &'a str {
-    matches.get_str("image").unwrap_or("")
+    word(matches, "image")
+}
+
+/// A word without which words make no request.
+fn word<'a>(matches: &ArgMatches<'a>, name: &str) -> &'a str {
+    matches.get_str(name).unwrap_or("")
 }
 
 fn frames<'a>(matches: &ArgMatches<'a>) -> Result<Option<u32>, BadNumber<'a>>

@@ -9,12 +9,10 @@ ghost use Rattle.guest_cli.specs.TurnRuns.{TellsTurns};
 ghost use Rattle.elf_image.specs.Start.{start_of};
 
 use crate::frame_machine::FrameMachine;
-use crate::input::read_whole;
 use crate::request::RunRequest;
-use crate::told_end::{status_of, tell_end};
 use elf_image::Image;
 use flat_machine::{End, FlatProcess, KillCause};
-use guest_steps::run_turns;
+use guest_io::{read_whole, status_of, tell_end};
 use image_files::{Fault, Folder, read_image};
 use std::alloc::Global;
 use std::io::{Read, Write};
@@ -100,7 +98,7 @@ fn run_to_end<'a, O: Write>(
     let mut steps = 0u64;
     'pieces: while steps < limit {
         let most = (limit - steps).min(PIECE);
-        let ran = run_turns(process, &mut turn, most);
+        let ran = process.run_turns(&mut turn, most);
         written = write_more(process.output(), written, out)?;
         match ran {
             Ok(ran) => steps += ran,

@@ -1,6 +1,7 @@
 //! What is wrong with the words that the program was given.
 
 use image_files::Fault;
+use record_commands::RecordsFault;
 use std::alloc::AllocError;
 
 /// Why a command stops. What is of the other programs too is their fault.
@@ -8,6 +9,9 @@ use std::alloc::AllocError;
 pub(crate) enum Wrong<'a> {
     #[error("{0}")]
     Fault(Fault<'a>),
+    /// Of a command on records.
+    #[error("{0}")]
+    Records(RecordsFault<'a>),
     /// Words that are no request, as the library that reads them says it in its first line.
     #[error("bad usage: {0}")]
     Words(String),
@@ -28,6 +32,12 @@ pub(crate) struct BadNumber<'a> {
 impl<'a> From<Fault<'a>> for Wrong<'a> {
     fn from(fault: Fault<'a>) -> Self {
         Wrong::Fault(fault)
+    }
+}
+
+impl<'a> From<RecordsFault<'a>> for Wrong<'a> {
+    fn from(fault: RecordsFault<'a>) -> Self {
+        Wrong::Records(fault)
     }
 }
 

@@ -11,7 +11,7 @@ use Rattle.flat_machine.specs.declared.end.End.TheVariants.{Exited, Trapped, Kil
 use Rattle.flat_machine.specs.declared.end.KillCause.{KillCause}
 use Rattle.flat_machine.specs.declared.end.KillCause.TheVariants.{NoSwap, LoadFailed, Damaged, ScheduleFull, NoMemory, Limit}
 use Rattle.guest_cli.specs.FlatRuns.{EndsLike, TellsFlatRun}
-use Rattle.guest_frames.specs.FrameRuns.{RunsOnFrames}
+use Rattle.guest_frames.specs.FrameRuns.{PlaysProcess, RunsOnFrames}
 use Rattle.machine_core.specs.Machine.{CoreValue}
 use Rattle.machine_core.specs.Opening.{MachineBegins}
 use Rattle.machine_sides.specs.FlatLines.{HaveLines, StandsForRun}
@@ -21,29 +21,16 @@ use Rattle.serial_driver.specs.StepsLimit.{PlaysToSteps, is_limit_end, is_limite
 use Rattle.space_core.specs.StandsFor.{SpaceValue, own_ending}
 use Rattle.swap_slots.specs.Slot.{zero_content}
 
--- the first line is the first process's
-first_told : (items : List ProcessReport) (process : ProcessReport) (line : Told) → slice_get items 0 ≡ Some process → slice_get (map told items) 0 ≡ Some line → line ≡ told process
-first_told [] process line at found = absurd (cc)
-first_told (item ∷ items) process line at found = cc
-
 -- an ending that is told is the flat process's own, and none where the machine ended the program
 ends_like : (end : End) (own : Option End) → own_ending (Some end) ≡ own → EndsLike end own
 ends_like (Exited status) own is = sym is
 ends_like (Trapped hart cause pc value) own is = sym is
 ends_like (Killed cause) own is = sym is
 
--- the first process's line stands for a flat run
-pub line_stands : (start : Start) (lines : List Told) (items : List ProcessReport) (process : ProcessReport) → HaveLines (start ∷ []) lines → map told items ≡ lines → slice_get items 0 ≡ Some process
-    → StandsForRun start (told process)
-line_stands start lines items process have same at =
-    let has = have 0 start refl in
-    let found : slice_get (map told items) 0 ≡ Some has.line = ap (λ l. slice_get l 0) same ∙ has.found in
-    subst (StandsForRun start) (first_told items process has.line at found) has.stands
-
 tells : (limit : ℕ) (start : Start) (process : ProcessReport) (old new : Option (List ℕ)) (end : End) → StandsForRun start (told process) → own_ending (Some end) ≡ own_ending process.end
     → Appends old new process.output.items → process.steps ≤ limit → (end ≡ Killed Limit → process.steps ≡ limit) → TellsFlatRun limit start old new end process.steps
 tells limit start process old new end stands is written within limited = record {
-  harts = stands.harts;
+  harts = written_out process.turns.items;
   flat = stands.flat;
   ran = stands.ran;
   counted = stands.steps;
@@ -61,17 +48,6 @@ either (Some (Trapped hart trap pc value)) cause = refl
 either (Some (Killed why)) cause = refl
 
 -- ---- the limit
-
--- a report is of this process, the first of them
-pub record HasCome {S : Type 0} (processes : List (SpaceValue S)) (report : ProcessReport) : Type 0 where
-  pub process : SpaceValue S
-  pub found : slice_get processes 0 ≡ Some process
-  pub same : told report ≡ come_to process
-
-pub come_first : {S : Type 0} (items : List ProcessReport) (processes : List (SpaceValue S)) (report : ProcessReport) → map told items ≡ map come_to processes → slice_get items 0 ≡ Some report → HasCome processes report
-come_first [] processes report same at = absurd (cc)
-come_first (item ∷ items) [] report same at = absurd (cc)
-come_first (item ∷ items) (process ∷ processes) report same at = record { process = process; found = refl; same = cc }
 
 module _ {S : Type 0} (frames : ℕ) (free : List S) (start : Start) (begun : CoreValue S) (begins : MachineBegins frames free (start ∷ []) begun) where
   no_steps : steps_at 0 begun ≡ 0
@@ -101,35 +77,33 @@ exact_limit (Some (Killed cause)) steps limit end unlimited short within is ende
     by_cause NoMemory un e = cc
     by_cause Limit un e = cc
 
-module _ (frames limit : ℕ) (start : Start) (begun over : CoreValue (List ℕ)) (report : ProcessReport) (end : End) (begins : MachineBegins frames (replicate 4096 zero_content) (start ∷ []) begun)
-    (plays : PlaysToSteps (λ bytes. bytes) ⊤ (λ _. 0) 1000 0 limit begun over) (come : HasCome over.processes report) (is : end ≡ unwrap_or report.end (Killed Limit)) where
+module _ (frames limit : ℕ) (start : Start) (report : ProcessReport) (end : End) (played : PlaysProcess frames 4096 1000 limit start report) (is : end ≡ unwrap_or report.end (Killed Limit)) where
   pub runs_so : RunsOnFrames frames limit start end report.steps
   runs_so = record {
-    begun = begun;
-    begins = begins;
-    over = over;
-    plays = plays;
-    process = come.process;
-    found = come.found;
-    end_is = is ∙ ap (λ (t : Told). unwrap_or t.end (Killed Limit)) come.same;
-    steps_are = ap (λ (t : Told). t.steps) come.same;
+    begun = played.begun;
+    begins = played.begins;
+    over = played.over;
+    plays = played.plays;
+    process = played.process;
+    found = played.found;
+    end_is = is ∙ ap (λ (t : Told). unwrap_or t.end (Killed Limit)) played.same;
+    steps_are = ap (λ (t : Told). t.steps) played.same;
   }
 
   few_steps : report.steps ≤ limit
   few_steps =
-      let none = no_steps frames (replicate 4096 zero_content) start begun begins in
-      let within = plays.within (omega (arith, none)) in
-      let many : steps_at 0 over ≡ report.steps = ap steps_of come.found ∙ sym (ap (λ (t : Told). t.steps) come.same) in
+      let none = no_steps frames (replicate 4096 zero_content) start played.begun played.begins in
+      let within = played.plays.within (omega (arith, none)) in
+      let many : steps_at 0 played.over ≡ report.steps = ap steps_of played.found ∙ sym (ap (λ (t : Told). t.steps) played.same) in
       omega (arith, within, many)
 
-  all_steps : (limited_at 0 begun ≡ false → limited_at 0 over ≡ false) → end ≡ Killed Limit → report.steps ≡ limit
-  all_steps unlimited ended =
-      let many : steps_at 0 over ≡ report.steps = ap steps_of come.found ∙ sym (ap (λ (t : Told). t.steps) come.same) in
-      exact_limit come.process.running.ending report.steps limit end
-      (sym (ap is_limited come.found) ∙ unlimited (not_limited frames (replicate 4096 zero_content) start begun begins))
-      (λ less. plays.short (omega (arith, many, less)) come.process come.found) few_steps (is ∙ ap (λ (t : Told). unwrap_or t.end (Killed Limit)) come.same) ended
+  all_steps : end ≡ Killed Limit → report.steps ≡ limit
+  all_steps ended =
+      let many : steps_at 0 played.over ≡ report.steps = ap steps_of played.found ∙ sym (ap (λ (t : Told). t.steps) played.same) in
+      exact_limit played.process.running.ending report.steps limit end
+      (sym (ap is_limited played.found) ∙ played.unlimited (not_limited frames (replicate 4096 zero_content) start played.begun played.begins))
+      (λ less. played.plays.short (omega (arith, many, less)) played.process played.found) few_steps (is ∙ ap (λ (t : Told). unwrap_or t.end (Killed Limit)) played.same) ended
 
-  pub tells_so : (old new : Option (List ℕ)) → (limited_at 0 begun ≡ false → limited_at 0 over ≡ false) → StandsForRun start (told report) → Appends old new report.output.items
-      → TellsFlatRun limit start old new end report.steps
-  tells_so old new unlimited stands written =
-      tells limit start report old new end stands (ap (λ e. own_ending (Some e)) is ∙ either report.end Limit) written few_steps (all_steps unlimited)
+  pub tells_so : (old new : Option (List ℕ)) → StandsForRun start (told report) → Appends old new report.output.items → TellsFlatRun limit start old new end report.steps
+  tells_so old new stands written =
+      tells limit start report old new end stands (ap (λ e. own_ending (Some e)) is ∙ either report.end Limit) written few_steps all_steps

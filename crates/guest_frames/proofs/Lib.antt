@@ -1,1 +1,2 @@
+pub mod FirstReport
 pub mod FlatReport

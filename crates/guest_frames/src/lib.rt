@@ -2,6 +2,7 @@
 #![tactic(auto)]
 
 mod machine;
+mod playing;
 
 use crate::machine::run_on_frames;
 use debug_session::{Dialect, SessionFault};
@@ -9,6 +10,7 @@ use elf_image::Image;
 use flat_machine::End;
 use guest_cli::FrameMachine;
 use image_files::Fault;
+pub use playing::play_process;
 use serial_commands::debug_on;
 use std::alloc::Global;
 use std::io::{Read, Write};

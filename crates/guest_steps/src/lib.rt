@@ -3,13 +3,11 @@
 
 mod access;
 mod flow;
-mod run;
 mod step;
 mod step_string;
 mod told_step;
 
 pub use access::{DataAccess, access_of, destination_of};
 pub use flow::{Flow, flow_of};
-pub use run::run_turns;
 pub use step_string::StepString;
 pub use told_step::ToldStep;

@@ -17,6 +17,6 @@ pub use beginning::begin;
 pub use ending::{fail, finish};
 pub use fault::Fault;
 pub use files::{Folder, read_input, read_text};
-pub use image_file::{read_image, read_processes, read_source};
+pub use image_file::{image_in, read_image, read_processes, read_source};
 pub use slots::memory_slots;
 pub use words::read_words;

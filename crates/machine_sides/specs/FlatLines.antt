@@ -2,16 +2,16 @@
 use Rattle.std.specs.Prelude.{◌≡◌, ℕ, List, length, Some, slice_get}
 use Rattle.elf_image.specs.Start.{Start}
 use Rattle.flat_machine.specs.Process.{Process, opening, flat_run}
+use Rattle.flat_machine.specs.Schedule.{written_out}
 use Rattle.machine_sides.specs.Reporting.{Told}
 use Rattle.space_core.specs.StandsFor.{own_ending}
 
--- A line tells of a flat run of this image on this input: some order of harts with as many steps as are told leads to a flat
+-- A line tells of a flat run of this image on this input: the turns that are told, of as many steps as are told, lead to a flat
 -- process with the output that is told, and with the ending that is told, but that one whom the machine killed goes on there.
 pub record StandsForRun (start : Start) (line : Told) : Type 0 where
-  pub harts : List ℕ
   pub flat : Process
-  pub ran : flat_run harts (opening start.image start.input) ≡ Some flat
-  pub steps : line.steps ≡ length harts
+  pub ran : flat_run (written_out line.turns) (opening start.image start.input) ≡ Some flat
+  pub steps : line.steps ≡ length (written_out line.turns)
   pub output : line.output ≡ flat.environment.output
   pub ending : own_ending line.end ≡ flat.ending
 

@@ -1,6 +1,6 @@
 //! What a machine has come to.
 
-use flat_machine::End;
+use flat_machine::{End, Turn};
 
 /// What a process has come to.
 #[derive(Drop)]
@@ -11,6 +11,8 @@ pub struct ProcessReport {
     pub end: Option<End>,
     /// How many instructions ran.
     pub steps: u64,
+    /// Whose turn each of them was, first to last.
+    pub turns: Vec<Turn>,
 }
 
 /// What a machine has come to. Each count stays at its type's largest number.

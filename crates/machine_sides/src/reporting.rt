@@ -1,14 +1,14 @@
 //! Reports of machines and their processes.
 
 ghost use Rattle.std.specs.Prelude.{◌≡◌, ◌≤◌, ◌^◌, [], IfOk, length, map, vec_capacity, vec_len};
-ghost use Rattle.flat_machine.specs.Schedule.{written_out};
+ghost use Rattle.flat_machine.specs.Schedule.{IsJoined, written_out};
 ghost use Rattle.machine_sides.specs.Reporting.{Reports, come_to, told};
 
 use crate::auditing::audit;
 use crate::pager_side::PagerSide;
 use crate::report::{ProcessReport, Report};
 use clock_policy::Clock;
-use flat_machine::Schedule;
+use flat_machine::Turn;
 use space_core::Space;
 use std::alloc::{AllocError, Global};
 use std::sync::ledger::Ledger;
@@ -83,7 +83,7 @@ fn report_of<L: Ledger, C: Clock>(
     }
 }
 
-/// What a process has come to, with a copy of what it wrote.
+/// What a process has come to, with copies of what it wrote and of its turns.
 fn process_report<L: Ledger, S: SwapSlot>(
     alloc: Global,
     space: &Space<L, S>,
@@ -91,32 +91,37 @@ fn process_report<L: Ledger, S: SwapSlot>(
     ensures { IfOk result (λ report. told report ≡ come_to space.now) }
 {
     let output = Vec::from_slice(alloc, space.output())?;
+    let turns = Vec::from_slice(alloc, space.schedule().turns())?;
     Ok(ProcessReport {
         output,
         end: space.end(),
-        steps: steps_of(space.schedule()),
+        steps: steps_of(turns.as_slice()),
+        turns,
     })
 }
 
-/// What a process has come to, with what it wrote. It takes no memory.
+/// What a process has come to, with what it wrote and its turns. It takes no memory.
 pub fn into_process_report<L: Ledger, S: SwapSlot>(space: Space<L, S>) -> ProcessReport
     ensures { told result ≡ come_to space }
 {
     let end = space.end();
-    let steps = steps_of(space.schedule());
+    let steps = steps_of(space.schedule().turns());
+    let (output, turns) = space.into_output_and_turns();
     ProcessReport {
-        output: space.into_output(),
+        output,
         end,
         steps,
+        turns,
     }
 }
 
-/// How many instructions a schedule has.
-fn steps_of(schedule: &Schedule) -> u64
-    ensures { result ≡ length (written_out schedule.now) }
+/// How many instructions the turns of a schedule have.
+fn steps_of(turns: &[Turn]) -> u64
+    requires { IsJoined turns.now }
+    ensures { result ≡ length (written_out turns.now) }
 {
     let mut steps = 0;
-    'turns: for turn in schedule.turns() {
+    'turns: for turn in turns {
         steps += u64::from(turn.count);
     }
     steps

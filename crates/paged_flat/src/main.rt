@@ -3,13 +3,19 @@
 #![tactic(auto)]
 
 use flat_commands::run_flat_commands;
-use image_files::begin;
+use image_files::{Fault, begin, fail};
+use stack_room::take_stack_room;
 use std::process::ExitCode;
 
 fn main(rt: HostRuntime) -> ExitCode {
     let mut err = rt.stderr();
-    ExitCode::from(match begin(&rt, "paged", &mut err) {
-        Ok((words, mut out)) => run_flat_commands(&rt, words.as_slice(), &mut out, &mut err),
-        Err(status) => status,
-    })
+    let (words, mut out) = match begin(&rt, "paged", &mut err) {
+        Ok(begun) => begun,
+        Err(status) => return ExitCode::from(status),
+    };
+    if !take_stack_room(rt.alloc(), words.len()) {
+        return ExitCode::from(fail("paged", Fault::NoMemory, &mut err));
+    }
+    let words = words.as_slice();
+    ExitCode::from(run_flat_commands(&rt, words, &mut out, &mut err))
 }

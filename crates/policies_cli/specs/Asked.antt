@@ -5,8 +5,8 @@ use Rattle.elf_image.specs.Start.{Start}
 use Rattle.miss_counts.specs.Guests.{IsTable, guest_pages}
 use Rattle.miss_counts.specs.declared.counts.PolicyCounts.{PolicyCounts}
 use Rattle.image_files.specs.Reading.{AreGiven}
-use Rattle.policies_cli.specs.declared.request.GuestRequest.{GuestRequest}
-use Rattle.policies_cli.specs.declared.request.MissesRequest.{MissesRequest}
+use Rattle.policies_requests.specs.declared.request.GuestRequest.{GuestRequest}
+use Rattle.policies_requests.specs.declared.request.MissesRequest.{MissesRequest}
 
 -- the process that begins so
 abbrev pub opened : Start → Process

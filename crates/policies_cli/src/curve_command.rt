@@ -1,13 +1,13 @@
 //! `policies curve`: what a trace misses with every number of frames.
 
 use crate::curve_string::curve_string;
-use crate::request::CurveRequest;
-use crate::table::{write_curve, write_estimate};
 use crate::teller::Teller;
 use crate::windows_curve::run_windows;
 use crate::wrong::Wrong;
 use clock_policy::Key;
 use page_policies::{Frames, MOST_POLICY_FRAMES};
+use policies_requests::CurveRequest;
+use policies_tables::{Sample, write_curve, write_estimate};
 use std::alloc::{AllocError, Global};
 use std::io::Write;
 use std::num::NonZeroU32;
@@ -92,14 +92,12 @@ fn estimate<'a, R: Files + AllocGlobal, W: Write, E: Write>(
 ) -> Result<(), Wrong<'a>> {
     let (sample, references) = sample_of(rt, request, one_in, err)?;
     let lru = lru_curve(rt.alloc(), sample.as_slice())?;
-    Ok(write_estimate(
-        lru.as_slice(),
-        sample.len() as u64,
+    let of = Sample {
+        one_in: one_in.get(),
+        sampled: sample.len() as u64,
         references,
-        one_in.get(),
-        request.printing,
-        out,
-    )?)
+    };
+    Ok(write_estimate(lru.as_slice(), of, request.printing, out)?)
 }
 
 /// The references of a trace to one page in so many, and how many it has to any. How far it is read is told meanwhile.
@@ -110,7 +108,7 @@ fn sample_of<'a, R: Files + AllocGlobal, E: Write>(
     err: &mut E,
 ) -> Result<(Vec<Key>, u64), Wrong<'a>> {
     let mut trace = open_trace(rt, request.trace, request.format)?;
-    let mut teller = Teller::new(err, request.printing.is_told);
+    let mut teller = Teller::new(err, request.is_told);
     let read = read_sample(rt.alloc(), &mut trace, one_in, &mut teller);
     teller.erase();
     Ok(read?)

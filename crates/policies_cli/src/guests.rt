@@ -5,11 +5,11 @@ ghost use Rattle.elf_image.specs.Start.{start_of};
 ghost use Rattle.machine_limits.specs.Limits.{most_processes};
 ghost use Rattle.policies_cli.specs.Asked.{AreGuests, opened};
 
-use crate::request::GuestRequest;
 use elf_image::Image;
 use flat_machine::FlatProcess;
 use image_files::{Fault, Folder, read_processes};
 use machine_limits::MOST_PROCESSES;
+use policies_requests::GuestRequest;
 use std::alloc::{AllocError, Global};
 
 /// The guests that a request names, 64 at most.

@@ -1,19 +1,12 @@
 //! The program `policies`: how many references of a guest, or of a trace, miss under each replacement policy.
 #![tactic(auto)]
 
-mod access_choice;
-mod commands;
 mod curve_command;
 mod curve_string;
-mod frame_lists;
 mod guests;
 mod misses_command;
-mod policy_names;
 mod program;
 mod replay_command;
-mod request;
-mod requests;
-mod table;
 mod teller;
 mod totals_command;
 mod trace_command;

@@ -4,12 +4,12 @@ ghost use Rattle.std.specs.Prelude.{IfOk};
 ghost use Rattle.policies_cli.specs.Asked.{CountsAsAsked};
 
 use crate::guests::read_guests;
-use crate::request::MissesRequest;
-use crate::table::write_table;
 use crate::teller::Teller;
 use crate::wrong::Wrong;
 use image_files::Folder;
 use miss_counts::{PolicyCounts, StageListener, guest_rows};
+use policies_requests::MissesRequest;
+use policies_tables::write_table;
 use std::io::Write;
 use std::rt::Files;
 
@@ -31,7 +31,7 @@ fn count_told<'a, R: Files + AllocGlobal, E: Write>(
     request: MissesRequest<'a>,
     err: &mut E,
 ) -> Result<Vec<PolicyCounts>, Wrong<'a>> {
-    let mut teller = Teller::new(err, request.printing.is_told);
+    let mut teller = Teller::new(err, request.is_told);
     let counted = count_misses(rt, request, &mut teller);
     teller.erase();
     counted

@@ -3,13 +3,12 @@
 use crate::curve_command::run_curve;
 use crate::misses_command::run_misses;
 use crate::replay_command::run_replay;
-use crate::request::PoliciesRequest;
-use crate::requests::read_request;
 use crate::totals_command::run_totals;
 use crate::trace_command::run_trace;
 use crate::write_backs_command::run_write_backs;
 use crate::wrong::Wrong;
 use image_files::{Fault, finish};
+use policies_requests::{PoliciesRequest, RequestFault, read_request};
 use std::convert::AsStr;
 use std::io::Write;
 use std::rt::Files;
@@ -23,22 +22,34 @@ pub fn run_policies<R: Files + AllocGlobal, S: AsStr, O: Write, E: Write>(
 ) -> u8 {
     match run_words(rt, words, out, err) {
         Ok(()) => finish("policies", Ok(0), out, err),
-        Err(wrong) => end_wrongly(wrong, out, err),
+        Err(wrong) => end_wrongly(&wrong, out, err),
     }
 }
 
 /// Ends a run that was not done, or that was asked for help alone.
-fn end_wrongly<O: Write, E: Write>(wrong: Wrong<'_>, out: &mut O, err: &mut E) -> u8 {
+fn end_wrongly<O: Write, E: Write>(wrong: &Wrong<'_>, out: &mut O, err: &mut E) -> u8 {
     match wrong {
-        Wrong::Fault(fault) => finish("policies", Err(fault), out, err),
-        Wrong::Words(error) => {
+        Wrong::Request(fault) => end_request(wrong, fault, out, err),
+        _ => tell(wrong, out, err),
+    }
+}
+
+/// The same where words made no request.
+fn end_request<O: Write, E: Write>(
+    wrong: &Wrong<'_>,
+    fault: &RequestFault<'_>,
+    out: &mut O,
+    err: &mut E,
+) -> u8 {
+    match fault {
+        RequestFault::Words(error) => {
             if error.use_stderr() {
-                tell(&Wrong::Words(error), out, err)
+                tell(wrong, out, err)
             } else {
-                show_help(&error, out, err)
+                show_help(error, out, err)
             }
         }
-        other => tell(&other, out, err),
+        _ => tell(wrong, out, err),
     }
 }
 

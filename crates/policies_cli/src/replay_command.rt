@@ -1,12 +1,12 @@
 //! `policies replay`: what a trace misses.
 
-use crate::request::ReplayRequest;
-use crate::table::write_table;
 use crate::teller::Teller;
 use crate::wrong::Wrong;
 use clock_policy::Key;
 use miss_counts::{PolicyCounts, PolicyName, Row, Stage, StageListener, rows_of};
 use page_policies::Frames;
+use policies_requests::ReplayRequest;
+use policies_tables::write_table;
 use std::alloc::{AllocError, Global};
 use std::io::{BufRead, Write};
 use std::rt::Files;
@@ -29,7 +29,7 @@ fn count_told<'a, R: Files + AllocGlobal, E: Write>(
     request: &ReplayRequest<'a>,
     err: &mut E,
 ) -> Result<Vec<PolicyCounts>, Wrong<'a>> {
-    let mut teller = Teller::new(err, request.printing.is_told);
+    let mut teller = Teller::new(err, request.is_told);
     let counted = count_trace(rt, request, &mut teller);
     teller.erase();
     counted

@@ -1,11 +1,11 @@
 //! `policies totals`: how many references and pages a trace has.
 
-use crate::request::TotalsRequest;
 use crate::teller::Teller;
 use crate::wrong::Wrong;
 use clock_policy::Key;
 use image_files::Fault;
 use miss_counts::{Stage, StageListener};
+use policies_requests::TotalsRequest;
 use std::collections::HashSet;
 use std::io::{BufRead, Write};
 use std::rt::Files;

@@ -1,11 +1,11 @@
 //! `policies trace`: the string of references of guests.
 
 use crate::guests::read_guests;
-use crate::request::TraceRequest;
 use clock_policy::Key;
 use guest_strings::GuestString;
 use image_files::Fault;
 use miss_counts::{Quiet, pages_of};
+use policies_requests::TraceRequest;
 use std::alloc::Global;
 use std::io::Write;
 use std::rt::Files;
@@ -27,7 +27,7 @@ pub(crate) fn run_trace<'a, R: Files + AllocGlobal, W: Write>(
             &mut guests,
             out,
         ),
-        TraceFormat::Csv => write_all_csv(&mut guests, out),
+        TraceFormat::Csv | TraceFormat::Columns(_) => write_all_csv(&mut guests, out),
         TraceFormat::OracleGeneral => write_all_oracle(rt.alloc(), guests, out),
     }
 }

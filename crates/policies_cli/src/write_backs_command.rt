@@ -1,11 +1,11 @@
 //! `policies write-backs`: how many pages of a trace are written back.
 
-use crate::request::WriteBacksRequest;
-use crate::table::write_table;
 use crate::teller::Teller;
 use crate::wrong::Wrong;
 use guest_strings::Reference;
 use miss_counts::{PolicyCounts, StageListener};
+use policies_requests::WriteBacksRequest;
+use policies_tables::write_table;
 use std::io::Write;
 use std::rt::Files;
 use trace_files::{open_trace, read_references};
@@ -28,7 +28,7 @@ fn count_told<'a, R: Files + AllocGlobal, E: Write>(
     request: &WriteBacksRequest<'a>,
     err: &mut E,
 ) -> Result<Vec<PolicyCounts>, Wrong<'a>> {
-    let mut teller = Teller::new(err, request.printing.is_told);
+    let mut teller = Teller::new(err, request.is_told);
     let counted = count(rt, request, &mut teller);
     teller.erase();
     counted

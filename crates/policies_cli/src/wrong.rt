@@ -1,8 +1,8 @@
 //! What is wrong with the words or the trace that the program was given.
 
-use crate::policy_names::PolicyWords;
 use image_files::Fault;
 use page_policies::PolicyRefusal;
+use policies_requests::RequestFault;
 use std::alloc::AllocError;
 use std::io;
 use trace_files::TraceFault;
@@ -12,25 +12,11 @@ use trace_files::TraceFault;
 pub enum Wrong<'a> {
     #[error("{0}")]
     Fault(Fault<'a>),
-    /// Words that are no request, as the library that reads them says it. Help that was asked for is no fault.
+    /// Words that are no request.
     #[error("{0}")]
-    Words(clap::Error),
-    /// An option's value, and what it may be.
-    #[error("--{0} {1}: {2}")]
-    Value(&'static str, &'a str, &'static str),
-    /// A word that names no policy, and those that do.
-    #[error("--policies {0}: {1}")]
-    Policies(&'a str, PolicyWords),
-    /// Two options that don't go together, and why.
-    #[error("--{0} with --{1}: {2}")]
-    Together(&'static str, &'static str, &'static str),
-    /// A number of frames that one of the policies can't have.
-    #[error("{0} frames: clock-pro and clock-pro-used have 4 to 4096; name others by --policies")]
-    ClockProFrames(usize),
+    Request(RequestFault<'a>),
     #[error("clock-pro and clock-pro-used have 4 to 4096 frames; name others by --policies")]
     BadSize,
-    #[error("{0} images: 64 run at most")]
-    ManyImages(usize),
     /// A curve of so many pages.
     #[error("{0} pages: a curve has rows for 16777216 frames at most")]
     ManyPages(usize),
@@ -45,6 +31,16 @@ pub enum Wrong<'a> {
 impl<'a> From<Fault<'a>> for Wrong<'a> {
     fn from(fault: Fault<'a>) -> Self {
         Wrong::Fault(fault)
+    }
+}
+
+impl<'a> From<RequestFault<'a>> for Wrong<'a> {
+    fn from(fault: RequestFault<'a>) -> Self {
+        match fault {
+            RequestFault::NoMemory => Wrong::Fault(Fault::NoMemory),
+            RequestFault::BadUsage => Wrong::Fault(Fault::BadUsage),
+            other => Wrong::Request(other),
+        }
     }
 }
 

@@ -1,6 +1,7 @@
 -- What a run left of a machine tells of flat runs.
-use Rattle.std.proofs.Common.{◌≡◌, ℕ, List, length, map, option_map, sym, ap, ◌∙◌, subst}
+use Rattle.std.proofs.Common.{◌≡◌, ℕ, List, length, map, option_map, refl, sym, ap, ◌∙◌, subst}
 use Rattle.std.proofs.lemmas.Option.{slice_get-map}
+use Rattle.flat_machine.specs.Process.{flat_run, opening}
 use Rattle.flat_machine.specs.Schedule.{written_out}
 use Rattle.machine_sides.specs.FlatLines.{StandsForRun, HaveLines}
 use Rattle.machine_sides.specs.Reporting.{come_to, told}
@@ -19,10 +20,9 @@ module _ {S : Type 0} (held : S → List ℕ) (honest : Type 0) (failures : S �
   line_stands : (start : Start) (harts : List ℕ) (process : SpaceValue S) → written_out process.schedule ≡ harts → ShowsFlatRun held start.image start.input harts process
       → StandsForRun start (come_to process)
   line_stands start harts process recorded shows = record {
-    harts = harts;
     flat = shows.flat;
-    ran = shows.ran;
-    steps = ap (λ (l : List ℕ). length l) recorded;
+    ran = ap (λ l. flat_run l (opening start.image start.input)) recorded ∙ shows.ran;
+    steps = refl;
     output = ap (λ e. e.output) shows.environment;
     ending = shows.ending;
   }

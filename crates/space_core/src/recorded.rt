@@ -13,7 +13,7 @@ ghost use Rattle.space_core.specs.RunningValue.{beside, with_memory};
 use crate::progress::Steps;
 use crate::running::Running;
 use elf_image::Image;
-use flat_machine::{End, KillCause, Schedule};
+use flat_machine::{End, KillCause, Schedule, Turn};
 use paged_memory::PagedMemory;
 use rv_exec::Outcome;
 use shared_origins::SharedBytes;
@@ -103,11 +103,12 @@ impl Recorded {
         self.running.kill(cause);
     }
 
-    /// What was written, to be kept.
-    pub fn into_output(self) -> Vec<u8>
-        ensures { result.items ≡ self.running.environment.output }
+    /// What was written, and the turns that ran, to be kept.
+    pub fn into_output_and_turns(self) -> (Vec<u8>, Vec<Turn>)
+        ensures output { result.0.items ≡ self.running.environment.output }
+        ensures turns { result.1.items ≡ self.schedule }
     {
-        self.running.into_output()
+        (self.running.into_output(), self.schedule.into_turns())
     }
 
     /// What the process is besides its memory and schedule.

@@ -12,7 +12,7 @@ ghost use Rattle.space_core.specs.StandsFor.{OfFlat, own_ending};
 
 use crate::recorded::Recorded;
 use elf_image::Image;
-use flat_machine::{End, KillCause, Schedule};
+use flat_machine::{End, KillCause, Schedule, Turn};
 use page_store::{LeaveRefusal, PageState};
 use paged_memory::{HeldPages, PagedMemory};
 use rv_exec::Regs;
@@ -152,14 +152,15 @@ impl<L: Ledger, S: SwapSlot> Space<L, S> {
         self.recorded.running().output()
     }
 
-    /// What was written, to be kept.
+    /// What was written, and the turns that ran, to be kept.
     #[tactic(auto, using(crate::proofs::Shown::flat_environment))]
-    pub fn into_output(self) -> Vec<u8>
-        ensures exact { result.items ≡ self.running.environment.output }
-        ensures flat { OfFlat S.honest (λ flat. result.items ≡ flat.environment.output) self }
+    pub fn into_output_and_turns(self) -> (Vec<u8>, Vec<Turn>)
+        ensures output { result.0.items ≡ self.running.environment.output }
+        ensures flat { OfFlat S.honest (λ flat. result.0.items ≡ flat.environment.output) self }
+        ensures turns { result.1.items ≡ self.schedule }
     {
         self.coherent();
-        self.recorded.into_output()
+        self.recorded.into_output_and_turns()
     }
 
     /// How the process ended, if it did.

@@ -5,7 +5,7 @@ use Rattle.guest_strings.specs.declared.reference.Reference.{Reference}
 use Rattle.trace_files.specs.References.{Trace, Ends, Gives, told, flaw_at_end}
 use Rattle.trace_files.specs.ReferenceAnswers.{ArePages, BreaksBy, EndsBy, IsOver, IsWhole, Passes, StopsBy, TellsPages, TellsReferences, page_of}
 use Rattle.trace_files.specs.declared.fault.TraceFault.{TraceFault}
-use Rattle.trace_files.specs.declared.fault.TraceFault.TheVariants.{NoMemory, CannotRead, Empty, NoColumn, Line, Text, Record}
+use Rattle.trace_files.specs.declared.fault.TraceFault.TheVariants.{NoMemory, CannotRead, Empty, NoColumn, Line, Text, Record, Compressed}
 
 pub no_pages : (trace : Option Trace) → TellsPages [] trace trace
 no_pages None = tt
@@ -39,6 +39,7 @@ ends_here (NoColumn name) first now e breaks = e ∙ ap flaw_at_end breaks
 ends_here (Line number text) first now e breaks = e ∙ ap flaw_at_end breaks
 ends_here (Text name) first now e breaks = e ∙ ap flaw_at_end breaks
 ends_here (Record number size) first now e breaks = e ∙ ap flaw_at_end breaks
+ends_here (Compressed name compression) first now e breaks = e ∙ ap flaw_at_end breaks
 
 pub ends_by : (pages : List Key) (fault : TraceFault) (first now : Option Trace) → TellsPages pages first now → IfSome now (BreaksBy fault) → IfSome first (EndsBy fault)
 ends_by pages fault None now told_so breaks = tt
@@ -73,6 +74,7 @@ stops_here (NoColumn name) first now e breaks = e ∙ ap flaw_at_end breaks
 stops_here (Line number text) first now e breaks = e ∙ ap flaw_at_end breaks
 stops_here (Text name) first now e breaks = e ∙ ap flaw_at_end breaks
 stops_here (Record number size) first now e breaks = e ∙ ap flaw_at_end breaks
+stops_here (Compressed name compression) first now e breaks = e ∙ ap flaw_at_end breaks
 
 pub references_stop : (references : List Reference) (fault : TraceFault) (first now : Option Trace) → TellsReferences references first now → IfSome now (BreaksBy fault) → IfSome first (StopsBy fault)
 references_stop references fault None now told_so breaks = tt
@@ -105,6 +107,7 @@ stops_by (NoColumn name) first now e ends = e ∙ ends
 stops_by (Line number text) first now e ends = e ∙ ends
 stops_by (Text name) first now e ends = e ∙ ends
 stops_by (Record number size) first now e ends = e ∙ ends
+stops_by (Compressed name compression) first now e ends = e ∙ ends
 
 pub pages_stop : (pages : List Key) (fault : TraceFault) (first now : Option Trace) → TellsPages pages first now → IfSome now (EndsBy fault) → IfSome first (StopsBy fault)
 pages_stop pages fault None now told_so ends = tt

@@ -5,7 +5,7 @@ use Rattle.guest_strings.specs.declared.reference.Reference.{Reference}
 use Rattle.trace_files.specs.References.{Flaw, Trace, Ends, Breaks, Gives}
 use Rattle.trace_files.specs.ReferenceAnswers.{BreaksBy, IsOutside, IsOver, Passes, TakesPiece, Tells}
 use Rattle.trace_files.specs.declared.fault.TraceFault.{TraceFault}
-use Rattle.trace_files.specs.declared.fault.TraceFault.TheVariants.{NoMemory, CannotRead, Empty, NoColumn, Line, Text, Record}
+use Rattle.trace_files.specs.declared.fault.TraceFault.TheVariants.{NoMemory, CannotRead, Empty, NoColumn, Line, Text, Record, Compressed}
 
 -- a fault from outside says nothing of the trace
 outside_here : (fault : TraceFault) (trace : Trace) → IsOutside fault → BreaksBy fault trace
@@ -16,6 +16,7 @@ outside_here (NoColumn name) trace h = elim h [ ]
 outside_here (Line number text) trace h = elim h [ ]
 outside_here (Text name) trace h = elim h [ ]
 outside_here (Record number size) trace h = elim h [ ]
+outside_here (Compressed name compression) trace h = elim h [ ]
 
 pub from_outside : (fault : TraceFault) (trace : Option Trace) → IsOutside fault → IfSome trace (BreaksBy fault)
 from_outside fault None h = tt

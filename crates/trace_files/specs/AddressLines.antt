@@ -5,7 +5,6 @@ use Rattle.std.specs.List.{starts_with, ends_with, list_any}
 use Rattle.std.specs.Str.{bytes_eq}
 use Rattle.text_lines.specs.Text.{words_of}
 use Rattle.trace_files.specs.Ids.{id_to}
-use Rattle.trace_files.specs.PageLines.{is_comma}
 use Rattle.trace_files.specs.declared.address_lines.AddressLine.{AddressLine}
 use Rattle.trace_files.specs.declared.address_lines.AddressLine.TheVariants.{Access as Accessed, Other}
 
@@ -29,6 +28,9 @@ unfoldable pub hexadecimal_in : List ℕ → Option ℕ
 hexadecimal_in word = if starts_with nat_eq word (codes "0x") then id_to 16 (drop 2 word) else None
 
 -- ---- valgrind's lackey
+
+abbrev pub is_comma : ℕ → Bool
+is_comma c = c == 44
 
 -- what valgrind says itself, or an empty line
 unfoldable pub is_of_valgrind : List ℕ → Bool

@@ -1,18 +1,13 @@
 -- What lines and records of traces of pages say.
-use Rattle.std.specs.Prelude.{ℕ, ◌+◌, ◌-◌, ◌/◌, ◌%◌, ◌^◌, ◌<◌, ◌==◌, ◌||◌, Bool, true, false, List, [], ◌∷◌, length, take, drop, position, codes, slice_get, slice_range, Option, Some, None, if◌then◌else◌}
-use Rattle.std.specs.Option.{option_map, option_and_then}
-use Rattle.std.specs.List.{slice_split, prefix_len, suffix_len}
-use Rattle.std.specs.Char.{is_ascii_whitespace}
+use Rattle.std.specs.Prelude.{ℕ, ◌+◌, ◌^◌, ◌<◌, ◌==◌, Bool, true, false, List, [], ◌∷◌, length, take, drop, position, codes, slice_range, Option, Some, None, if◌then◌else◌}
+use Rattle.std.specs.Option.{option_map}
 use Rattle.std.specs.Str.{bytes_eq}
 use Rattle.byteorder.specs.Endian.{little_number}
 use Rattle.text_lines.specs.Text.{words_of}
 use Rattle.clock_policy.specs.declared.key.Key.{Key}
 use Rattle.guest_strings.specs.declared.reference.Reference.{Reference}
 use Rattle.trace_files.specs.Ids.{id_in, written_below}
-
--- a page that stands for an object: each id has its own
-unfoldable pub page_of_id : ℕ → Key
-page_of_id id = record { process = id / 2 ^ 32; vpn = id % 2 ^ 32 }
+use Rattle.trace_files.specs.PageIds.{page_of_id}
 
 -- ---- a line: a page, and behind it a `w` where it is written
 
@@ -43,27 +38,6 @@ words_reference (page ∷ mark ∷ other ∷ others) = None
 
 abbrev pub line_reference : List ℕ → Option Reference
 line_reference line = words_reference (words_of line)
-
--- ---- a line of columns
-
-abbrev pub is_comma : ℕ → Bool
-is_comma c = c == 44
-
--- without the white space at both ends
-unfoldable pub trimmed : List ℕ → List ℕ
-trimmed text = let front = drop (prefix_len is_ascii_whitespace text) text in take (length front - suffix_len is_ascii_whitespace front) front
-
--- what a column of ids may be called
-unfoldable pub is_id_name : List ℕ → Bool
-is_id_name name = bytes_eq name (codes "id") || bytes_eq name (codes "obj_id") || bytes_eq name (codes "object_id") || bytes_eq name (codes "key") || bytes_eq name (codes "page")
-
--- the first column that is called so
-unfoldable pub column_of_ids : List ℕ → Option ℕ
-column_of_ids names = position (λ name. is_id_name (trimmed name)) (slice_split is_comma names)
-
--- the page of the id that stands in this column, counted from 0
-unfoldable pub csv_page : ℕ → List ℕ → Option Key
-csv_page column line = option_and_then (λ field. option_map page_of_id (id_in (trimmed field))) (slice_get (slice_split is_comma line) column)
 
 -- ---- a record of 24 bytes: the id stands behind 4 bytes of time
 

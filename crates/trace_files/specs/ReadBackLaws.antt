@@ -1,5 +1,5 @@
 -- What is written of a reference is read as that reference: proofs.
-use Rattle.std.specs.Prelude.{◌≡◌, ℕ, suc, ◌+◌, ◌/◌, ◌%◌, ◌^◌, ◌<◌, ◌==◌, ◌&&◌, Bool, true, false, cond, nat_eq, nat_lt, List, [], ◌∷◌, ◌++◌, length, drop, map, filter, position, codes, Option, Some, refl}
+use Rattle.std.specs.Prelude.{◌≡◌, ℕ, suc, ◌+◌, ◌*◌, ◌/◌, ◌%◌, ◌^◌, ◌<◌, ◌==◌, ◌&&◌, Bool, true, false, cond, nat_eq, nat_lt, List, [], ◌∷◌, ◌++◌, length, drop, map, filter, position, codes, Option, Some, refl}
 use Rattle.std.specs.List.{starts_with, position_or_len, flat_map}
 use Rattle.std.specs.Char.{digit_value}
 use Rattle.std.specs.Fmt.{decimal}
@@ -16,20 +16,21 @@ use Rattle.byteorder.specs.Endian.{little_bytes}
 use Rattle.byteorder.specs.Numbers.{little_number-reads_back}
 use Rattle.trace_files.specs.Ids.{written_below}
 use Rattle.trace_files.specs.IdLaws.{number_told}
-use Rattle.trace_files.specs.Written.{id_of, record_bytes, reference_line}
-use Rattle.trace_files.specs.PageLines.{is_bar, page_in, words_reference, line_reference, page_of_id, record_page, IsPage, AreReferences}
+use Rattle.trace_files.specs.Written.{record_bytes, reference_line}
+use Rattle.trace_files.specs.PageIds.{id_of, page_of_id}
+use Rattle.trace_files.specs.PageLines.{is_bar, page_in, words_reference, line_reference, record_page, IsPage, AreReferences}
 
 -- ---- a part that has no end in it
 
-abbrev Lacks : (ℕ → Bool) → List ℕ → Type 0
+abbrev pub Lacks : (ℕ → Bool) → List ℕ → Type 0
 Lacks ends [] = Unit {0}
 Lacks ends (c ∷ text) = (ends c ≡ false) × Lacks ends text
 
-lacks_both : (ends : ℕ → Bool) (front back : List ℕ) → Lacks ends front → Lacks ends back → Lacks ends (front ++ back)
+pub lacks_both : (ends : ℕ → Bool) (front back : List ℕ) → Lacks ends front → Lacks ends back → Lacks ends (front ++ back)
 lacks_both ends [] back h k = k
 lacks_both ends (c ∷ front) back h k = (h.0, lacks_both ends front back h.1 k)
 
-lacks_digits : (ends : ℕ → Bool) → ((c : ℕ) → digit_value c < 10 → ends c ≡ false) → (text : List ℕ) → AllDigits 10 text → Lacks ends text
+pub lacks_digits : (ends : ℕ → Bool) → ((c : ℕ) → digit_value c < 10 → ends c ≡ false) → (text : List ℕ) → AllDigits 10 text → Lacks ends text
 lacks_digits ends none [] h = tt
 lacks_digits ends none (c ∷ text) h = (none c h.0, lacks_digits ends none text h.1)
 
@@ -47,7 +48,7 @@ first_at ends (d ∷ text) c rest h here = rw h.0 (let later = first_at ends tex
 
 -- ---- digits
 
-other_byte : (k c : ℕ) (b : Bool) → (c == k) ≡ b → (digit_value k < 10 → ⊥) → digit_value c < 10 → b ≡ false
+pub other_byte : (k c : ℕ) (b : Bool) → (c == k) ≡ b → (digit_value k < 10 → ⊥) → digit_value c < 10 → b ≡ false
 other_byte k c false e none h = refl
 other_byte k c true e none h = let same : c ≡ k = (Decides-eqb c k).0 e in absurd (none (subst (λ (n : ℕ). digit_value n < 10) same h))
 
@@ -70,11 +71,11 @@ x_is_no_digit d true e h =
     let digit : digit_value 120 < 10 = subst (λ (n : ℕ). digit_value n < 10) (sym same) h in
     absurd (omega (arith, digit))
 
-and_no : (a b : Bool) → b ≡ false → (a && b) ≡ false
+pub and_no : (a b : Bool) → b ≡ false → (a && b) ≡ false
 and_no true b h = h
 and_no false b h = refl
 
-not_hexadecimal : (text : List ℕ) → AllDigits 10 text → starts_with nat_eq text (codes "0x") ≡ false
+pub not_hexadecimal : (text : List ℕ) → AllDigits 10 text → starts_with nat_eq text (codes "0x") ≡ false
 not_hexadecimal [] h = refl
 not_hexadecimal (c ∷ []) h = and_no (48 == c) false refl
 not_hexadecimal (c ∷ d ∷ text) h = and_no (48 == c) ((120 == d) && true) (rw (x_is_no_digit d (120 == d) refl h.1.0) refl)
@@ -180,12 +181,21 @@ pub record_read : (time id size next : ℕ) → id < 2 ^ 64 → record_page (lit
 unfolding record_page
 record_read time id size next h = ap (λ (n : ℕ). Some (page_of_id n)) (little_number-reads_back 8 id [] h)
 
-pub record_of_page : (time next : ℕ) (page : Key) → IsPage page → record_page (record_bytes time page next) ≡ Some (page_of_id (id_of page))
+-- an id that stands for a page is read as that page
+pub page_back : (page : Key) → IsPage page → page_of_id (id_of page) ≡ page
+unfolding page_of_id
+page_back page h =
+    let vpn = h.vpn in
+    let process : (page.process * 4294967296 + page.vpn) / 4294967296 ≡ page.process = omega (arith, vpn) in
+    let rest : (page.process * 4294967296 + page.vpn) % 4294967296 ≡ page.vpn = omega (arith, vpn) in
+    rw (process, rest) refl
+
+pub record_of_page : (time next : ℕ) (page : Key) → IsPage page → record_page (record_bytes time page next) ≡ Some page
 unfolding record_bytes
 record_of_page time next page h =
     let process = h.process in
     let vpn = h.vpn in
-    record_read time (id_of page) 1 next (omega (arith, process, vpn))
+    record_read time (id_of page) 1 next (omega (arith, process, vpn)) ∙ ap (λ (p : Key). Some p) (page_back page h)
 
 -- each id has a page of its own
 pub page_of_one_id : (a b : ℕ) → page_of_id a ≡ page_of_id b → a ≡ b

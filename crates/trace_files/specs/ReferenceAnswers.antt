@@ -7,9 +7,9 @@ use Rattle.std.specs.declared.io.buffered.BufReader.{BufReader}
 use Rattle.text_lines.specs.Text.{lines_of}
 use Rattle.clock_policy.specs.declared.key.Key.{Key}
 use Rattle.guest_strings.specs.declared.reference.Reference.{Reference}
-use Rattle.trace_files.specs.References.{Flaw, NoIds, BadLine, IsText, BadRecord, Trace, Ends, Breaks, told, flaw_at_end, accesses, before, pieces_of, rows, table, addresses_from, is_of_addresses, pages_from, trace_of}
+use Rattle.trace_files.specs.References.{Flaw, NoIds, BadLine, IsText, BadRecord, IsCompressed, Trace, Ends, Breaks, told, flaw_at_end, due_from, is_of_addresses, joined, lines, pieces_of, trace_of}
 use Rattle.trace_files.specs.declared.fault.TraceFault.{TraceFault}
-use Rattle.trace_files.specs.declared.fault.TraceFault.TheVariants.{NoMemory, CannotRead, Empty, NoColumn, Line, Text, Record}
+use Rattle.trace_files.specs.declared.fault.TraceFault.TheVariants.{NoMemory, CannotRead, Empty, NoColumn, Line, Text, Record, Compressed}
 use Rattle.trace_files.specs.declared.format.TraceFormat.{TraceFormat}
 use Rattle.trace_files.specs.declared.pieces.Pieces.{Pieces}
 use Rattle.trace_files.specs.declared.trace_file.TraceFile.{TraceFile}
@@ -32,6 +32,7 @@ IsOutside (NoColumn name) = ⊥
 IsOutside (Line number text) = ⊥
 IsOutside (Text name) = ⊥
 IsOutside (Record number size) = ⊥
+IsOutside (Compressed name compression) = ⊥
 
 -- a fault that tells which trace it is of tells this name
 abbrev pub Names : List ℕ → TraceFault → Type 0
@@ -42,6 +43,7 @@ Names name (NoColumn named) = named.now ≡ name
 Names name (Line number text) = ⊤
 Names name (Text named) = named.now ≡ name
 Names name (Record number size) = ⊤
+Names name (Compressed named compression) = named.now ≡ name
 
 -- the file of this name can't be read
 abbrev pub IsUnread : List ℕ → TraceFault → Type 0
@@ -59,6 +61,7 @@ Blames (NoColumn name) P = P NoIds
 Blames (Line number text) P = P (BadLine number)
 Blames (Text name) P = P IsText
 Blames (Record number size) P = P (BadRecord number size)
+Blames (Compressed name compression) P = P (IsCompressed compression)
 
 -- a fault of the content stands where the trace breaks, and is that which breaks it
 abbrev pub BreaksBy : TraceFault → Trace → Type 0
@@ -84,29 +87,21 @@ Tells gives (Err fault) trace rest = IfSome trace (BreaksBy fault)
 
 -- ---- what is still to come
 
-abbrev pub rows_left : {B : Type 0} → (B → Option (List ℕ)) → TraceFormat → ℕ → Pieces B → Option Trace
-rows_left remaining format column pieces = option_map (λ bytes. rows format column pieces.count (pieces_of format bytes)) (remaining pieces.file)
-
-abbrev pub table_left : {B : Type 0} → (B → Option (List ℕ)) → Pieces B → Option Trace
-table_left remaining pieces = option_map (λ bytes. table pieces.count (lines_of bytes)) (remaining pieces.file)
-
-abbrev pub accesses_left : {B : Type 0} → (B → Option (List ℕ)) → TraceFormat → Pieces B → Option Trace
-accesses_left remaining format pieces = option_map (λ bytes. accesses format pieces.count (lines_of bytes)) (remaining pieces.file)
+abbrev pub lines_left : {B : Type 0} → (B → Option (List ℕ)) → TraceFormat → Pieces B → Option Trace
+lines_left remaining format pieces = option_map (λ bytes. lines format pieces.count (pieces_of format bytes)) (remaining pieces.file)
 
 -- with a reference in front that is due
 abbrev pub due_left : {B : Type 0} → (B → Option (List ℕ)) → TraceFormat → Option Reference → Pieces B → Option Trace
-due_left remaining format due pieces = option_map (λ bytes. before due (accesses format pieces.count (lines_of bytes))) (remaining pieces.file)
+due_left remaining format due pieces = option_map (due_from format due pieces.count) (remaining pieces.file)
 
-abbrev pub addresses_left : {B : Type 0} → (B → Option (List ℕ)) → TraceFormat → Option Reference → Option Reference → Pieces B → Option Trace
-addresses_left remaining format held due pieces = option_map (addresses_from format held due pieces.count) (remaining pieces.file)
-
-abbrev pub pages_left : {B : Type 0} → (B → Option (List ℕ)) → TraceFormat → ℕ → Pieces B → Option Trace
-pages_left remaining format column pieces = option_map (pages_from format column pieces.count) (remaining pieces.file)
+-- with one that is held
+abbrev pub joined_left : {B : Type 0} → (B → Option (List ℕ)) → TraceFormat → Option Reference → Option Reference → Pieces B → Option Trace
+joined_left remaining format held due pieces = option_map (λ bytes. joined held (due_from format due pieces.count bytes)) (remaining pieces.file)
 
 -- what a trace still tells
 abbrev pub to_come : {B : Type 0} → (B → Option (List ℕ)) → TraceFile B → Option Trace
-to_come remaining trace = if is_of_addresses trace.format then addresses_left remaining trace.format trace.held trace.second trace.pieces
-    else pages_left remaining trace.format trace.column trace.pieces
+to_come remaining trace = if is_of_addresses trace.format then joined_left remaining trace.format trace.held trace.second trace.pieces
+    else due_left remaining trace.format trace.second trace.pieces
 
 -- the name that a trace was opened by
 abbrev pub name_of : {B : Type 0} → TraceFile B → Bor (List ℕ)
@@ -152,6 +147,7 @@ StopsBy (NoColumn name) trace = EndsBy (NoColumn name) trace
 StopsBy (Line number text) trace = EndsBy (Line number text) trace
 StopsBy (Text name) trace = EndsBy (Text name) trace
 StopsBy (Record number size) trace = EndsBy (Record number size) trace
+StopsBy (Compressed name compression) trace = EndsBy (Compressed name compression) trace
 
 -- a whole trace was told, without a flaw
 abbrev pub IsWhole : List Reference → Trace → Type 0

@@ -1,17 +1,25 @@
 -- What references the bytes of a trace tell of.
 use Rattle.std.specs.Prelude.{ℕ, zero, suc, ◌+◌, ◌-◌, ◌^◌, ◌==◌, ◌&&◌, ◌||◌, Bool, true, false, min, nat_le, nat_lt, List, [], ◌∷◌, length, Option, Some, None, if◌then◌else◌}
-use Rattle.std.specs.Option.{option_map}
+use Rattle.std.specs.Option.{is_some, option_map}
 use Rattle.std.specs.List.{list_all}
 use Rattle.text_lines.specs.Text.{ahead, lines_of}
+use Rattle.clock_policy.specs.declared.key.Key.{Key}
 use Rattle.guest_strings.specs.References.{both, is_same_page}
 use Rattle.guest_strings.specs.declared.reference.Reference.{Reference}
 use Rattle.trace_files.specs.AddressLines.{dynamorio_line, lackey_line}
-use Rattle.trace_files.specs.PageLines.{column_of_ids, csv_page, line_reference, page_of_id, record_page, referred}
+use Rattle.trace_files.specs.Columns.{column_of_ids, column_page}
+use Rattle.trace_files.specs.PageIds.{page_of_id}
+use Rattle.trace_files.specs.PageLines.{line_reference, record_page, referred}
+use Rattle.trace_files.specs.PlainLines.{compression_at, is_left_out, plain_line}
 use Rattle.trace_files.specs.declared.address_lines.Access.{Access}
 use Rattle.trace_files.specs.declared.address_lines.AddressLine.{AddressLine}
 use Rattle.trace_files.specs.declared.address_lines.AddressLine.TheVariants.{Access as Accessed, Other}
+use Rattle.trace_files.specs.declared.compression.Compression.{Compression}
 use Rattle.trace_files.specs.declared.format.TraceFormat.{TraceFormat}
-use Rattle.trace_files.specs.declared.format.TraceFormat.TheVariants.{Text, Csv, OracleGeneral, Lackey, DynamoRio}
+use Rattle.trace_files.specs.declared.format.TraceFormat.TheVariants.{Text, Csv, Columns, OracleGeneral, Lackey, DynamoRio}
+use Rattle.trace_files.specs.declared.trace_lines.LineReferences.{LineReferences}
+use Rattle.trace_files.specs.declared.trace_lines.TraceLine.{TraceLine}
+use Rattle.trace_files.specs.declared.trace_lines.TraceLine.TheVariants.{Refers, LeftOut, Names}
 
 -- ---- what a trace tells
 
@@ -21,6 +29,7 @@ pub data Flaw : Type 0 where
   BadLine : ℕ → Flaw
   IsText : Flaw
   BadRecord : ℕ → ℕ → Flaw
+  IsCompressed : Compression → Flaw
 
 -- references one after another, to the end of the trace or to what is wrong in it
 pub data Trace : Type 0 where
@@ -45,11 +54,6 @@ abbrev pub before : Option Reference → Trace → Trace
 before None rest = rest
 before (Some reference) rest = Gives reference rest
 
--- a reference in front; where there is none the trace breaks
-abbrev pub first_or : Flaw → Option Reference → Trace → Trace
-first_or flaw None rest = Breaks flaw
-first_or flaw (Some reference) rest = Gives reference rest
-
 -- one line or record more; the number stays within 64 bits
 abbrev pub counted : ℕ → ℕ
 counted count = min (count + 1) (2 ^ 64 - 1)
@@ -69,11 +73,18 @@ records_of bytes = records_from 23 bytes
 abbrev pub pieces_of : TraceFormat → List ℕ → List (List ℕ)
 pieces_of Text bytes = lines_of bytes
 pieces_of Csv bytes = lines_of bytes
+pieces_of (Columns column) bytes = lines_of bytes
 pieces_of OracleGeneral bytes = records_of bytes
 pieces_of Lackey bytes = lines_of bytes
 pieces_of DynamoRio bytes = lines_of bytes
 
--- ---- traces of pages: a reference a line or record
+-- ---- what a line or record says
+
+abbrev pub to_page : Key → TraceLine
+to_page page = Refers (record { first = referred false page; second = None })
+
+abbrev pub to_reference : Reference → TraceLine
+to_reference reference = Refers (record { first = reference; second = None })
 
 -- a printable character of ASCII, or white space
 unfoldable pub is_text_byte : ℕ → Bool
@@ -83,74 +94,98 @@ is_text_byte byte = (nat_le 32 byte && nat_lt byte 127) || (nat_le 9 byte && nat
 unfoldable pub shows_text : ℕ → List ℕ → Bool
 shows_text number bytes = (number == 1) && list_all is_text_byte bytes
 
-unfoldable pub record_reference : ℕ → List ℕ → Option Reference
-record_reference number bytes = if shows_text number bytes then None else option_map (referred false) (record_page bytes)
+unfoldable pub record_said : ℕ → List ℕ → Option TraceLine
+record_said number bytes = if shows_text number bytes then None else option_map to_page (record_page bytes)
 
-unfoldable pub record_flaw : ℕ → List ℕ → Flaw
-record_flaw number bytes = if shows_text number bytes then IsText else BadRecord number (length bytes)
-
--- what the line or record of this number refers to
-abbrev pub row_reference : TraceFormat → ℕ → ℕ → List ℕ → Option Reference
-row_reference Text column number line = line_reference line
-row_reference Csv column number line = option_map (referred false) (csv_page column line)
-row_reference OracleGeneral column number bytes = record_reference number bytes
-row_reference Lackey column number line = line_reference line
-row_reference DynamoRio column number line = line_reference line
-
--- what is wrong with it where it refers to nothing
-abbrev pub row_flaw : TraceFormat → ℕ → List ℕ → Flaw
-row_flaw Text number line = BadLine number
-row_flaw Csv number line = BadLine number
-row_flaw OracleGeneral number bytes = record_flaw number bytes
-row_flaw Lackey number line = BadLine number
-row_flaw DynamoRio number line = BadLine number
-
--- the lines or records behind the first so many, with the ids in a column
-unfoldable pub rows : TraceFormat → ℕ → ℕ → List (List ℕ) → Trace
-rows format column count [] = Ends
-rows format column count (piece ∷ pieces) = first_or (row_flaw format (counted count) piece) (row_reference format column (counted count) piece) (rows format column (counted count) pieces)
-
--- a table, of which the first line names the columns
-abbrev pub rows_in : Option ℕ → ℕ → List (List ℕ) → Trace
-rows_in None count lines = Breaks NoIds
-rows_in (Some column) count lines = rows Csv column count lines
-
-unfoldable pub table : ℕ → List (List ℕ) → Trace
-table count [] = Ends
-table count (names ∷ lines) = rows_in (column_of_ids names) (counted count) lines
-
--- ---- traces of addresses
-
-abbrev pub address_line : TraceFormat → List ℕ → Option AddressLine
-address_line Text line = dynamorio_line line
-address_line Csv line = dynamorio_line line
-address_line OracleGeneral line = dynamorio_line line
-address_line Lackey line = lackey_line line
-address_line DynamoRio line = dynamorio_line line
-
--- the reference to the page of the last byte, where that is another page than the first byte's
+-- an access refers to the page of its first byte, and to that of its last, where that is another
 unfoldable pub second_of : Access → Option Reference
 second_of access = if access.last == access.first then None else Some (referred access.is_written (page_of_id access.last))
 
 abbrev pub first_of : Access → Reference
 first_of access = referred access.is_written (page_of_id access.first)
 
--- one reference to the page of an access, or one to each of its two
-abbrev pub accessed : Access → Trace → Trace
-accessed access rest = Gives (first_of access) (before (second_of access) rest)
+abbrev pub address_said : AddressLine → TraceLine
+address_said (Accessed access) = Refers (record { first = first_of access; second = second_of access })
+address_said Other = LeftOut
 
--- a line's access; where a line tells of none the next does
-abbrev pub line_given : AddressLine → Trace → Trace
-line_given (Accessed access) rest = accessed access rest
-line_given Other rest = rest
+-- what a line says that is not left out
+abbrev pub form_said : TraceFormat → List ℕ → Option TraceLine
+form_said Text line = option_map to_reference (line_reference line)
+form_said Csv line = option_map Names (column_of_ids line)
+form_said (Columns column) line = option_map to_page (column_page column line)
+form_said OracleGeneral line = option_map to_reference (line_reference line)
+form_said Lackey line = option_map address_said (lackey_line line)
+form_said DynamoRio line = option_map address_said (dynamorio_line line)
 
-abbrev pub line_or : Flaw → Option AddressLine → Trace → Trace
+unfoldable pub line_said : TraceFormat → List ℕ → Option TraceLine
+line_said format line = if is_left_out line then Some LeftOut else form_said format line
+
+abbrev pub piece_said : TraceFormat → ℕ → List ℕ → Option TraceLine
+piece_said Text number piece = line_said Text (plain_line number piece)
+piece_said Csv number piece = line_said Csv (plain_line number piece)
+piece_said (Columns column) number piece = line_said (Columns column) (plain_line number piece)
+piece_said OracleGeneral number piece = record_said number piece
+piece_said Lackey number piece = line_said Lackey (plain_line number piece)
+piece_said DynamoRio number piece = line_said DynamoRio (plain_line number piece)
+
+-- what the line or record of this number says, if anything: none of a file that is compressed does
+unfoldable pub said : TraceFormat → ℕ → List ℕ → Option TraceLine
+said format number piece = if is_some (compression_at number piece) then None else piece_said format number piece
+
+-- ---- what is wrong with one that says nothing
+
+unfoldable pub record_flaw : ℕ → List ℕ → Flaw
+record_flaw number bytes = if shows_text number bytes then IsText else BadRecord number (length bytes)
+
+abbrev pub piece_flaw : TraceFormat → ℕ → List ℕ → Flaw
+piece_flaw Text number piece = BadLine number
+piece_flaw Csv number piece = NoIds
+piece_flaw (Columns column) number piece = BadLine number
+piece_flaw OracleGeneral number piece = record_flaw number piece
+piece_flaw Lackey number piece = BadLine number
+piece_flaw DynamoRio number piece = BadLine number
+
+abbrev pub compressed_or : Flaw → Option Compression → Flaw
+compressed_or flaw None = flaw
+compressed_or flaw (Some compression) = IsCompressed compression
+
+unfoldable pub flaw_of : TraceFormat → ℕ → List ℕ → Flaw
+flaw_of format number piece = compressed_or (piece_flaw format number piece) (compression_at number piece)
+
+-- ---- lines or records one after another
+
+abbrev pub referring : LineReferences → Trace → Trace
+referring line rest = Gives line.first (before line.second rest)
+
+abbrev pub line_given : TraceLine → Trace → Trace
+line_given (Refers line) rest = referring line rest
+line_given LeftOut rest = rest
+line_given (Names column) rest = rest
+
+abbrev pub line_or : Flaw → Option TraceLine → Trace → Trace
 line_or flaw None rest = Breaks flaw
 line_or flaw (Some line) rest = line_given line rest
 
-unfoldable pub accesses : TraceFormat → ℕ → List (List ℕ) → Trace
-accesses format count [] = Ends
-accesses format count (line ∷ lines) = line_or (BadLine (counted count)) (address_line format line) (accesses format (counted count) lines)
+-- behind the names of its columns a table has lines of columns
+abbrev pub csv_behind : Option TraceLine → TraceFormat
+csv_behind None = Csv
+csv_behind (Some (Refers line)) = Csv
+csv_behind (Some LeftOut) = Csv
+csv_behind (Some (Names column)) = Columns column
+
+abbrev pub format_behind : Option TraceLine → TraceFormat → TraceFormat
+format_behind line Text = Text
+format_behind line Csv = csv_behind line
+format_behind line (Columns column) = Columns column
+format_behind line OracleGeneral = OracleGeneral
+format_behind line Lackey = Lackey
+format_behind line DynamoRio = DynamoRio
+
+-- the lines or records behind the first so many
+unfoldable pub lines : TraceFormat → ℕ → List (List ℕ) → Trace
+lines format count [] = Ends
+lines format count (piece ∷ pieces) = line_or (flaw_of format (counted count) piece) (said format (counted count) piece)
+    (lines (format_behind (said format (counted count) piece) format) (counted count) pieces)
 
 -- Neighbours to one page are one reference. One that is held is given once it is known that the next is to another page, or that there is none.
 unfoldable pub joined : Option Reference → Trace → Trace
@@ -166,26 +201,19 @@ joined (Some reference) (Gives next rest) = if is_same_page reference.page next.
 abbrev pub is_of_addresses : TraceFormat → Bool
 is_of_addresses Text = false
 is_of_addresses Csv = false
+is_of_addresses (Columns column) = false
 is_of_addresses OracleGeneral = false
 is_of_addresses Lackey = true
 is_of_addresses DynamoRio = true
 
--- whether the names of the columns come next
-abbrev pub is_at_names : TraceFormat → ℕ → Bool
-is_at_names Text count = false
-is_at_names Csv count = count == 0
-is_at_names OracleGeneral count = false
-is_at_names Lackey count = false
-is_at_names DynamoRio count = false
+-- bytes behind the first so many lines or records, with a reference that is due
+abbrev pub due_from : TraceFormat → Option Reference → ℕ → List ℕ → Trace
+due_from format due count bytes = before due (lines format count (pieces_of format bytes))
 
--- bytes of a trace of pages behind the first so many lines or records, with the ids in a column
-abbrev pub pages_from : TraceFormat → ℕ → ℕ → List ℕ → Trace
-pages_from format column count bytes = if is_at_names format count then table count (lines_of bytes) else rows format column count (pieces_of format bytes)
-
--- bytes of a trace of addresses behind the first so many lines, with a reference that is held, and one that is due
-abbrev pub addresses_from : TraceFormat → Option Reference → Option Reference → ℕ → List ℕ → Trace
-addresses_from format held due count bytes = joined held (before due (accesses format count (lines_of bytes)))
+-- and of a trace of addresses with one that is held
+abbrev pub trace_from : TraceFormat → Option Reference → Option Reference → ℕ → List ℕ → Trace
+trace_from format held due count bytes = if is_of_addresses format then joined held (due_from format due count bytes) else due_from format due count bytes
 
 -- what the bytes of a whole file tell
 abbrev pub trace_of : TraceFormat → List ℕ → Trace
-trace_of format bytes = if is_of_addresses format then addresses_from format None None 0 bytes else pages_from format 0 0 bytes
+trace_of format bytes = trace_from format None None 0 bytes

@@ -6,14 +6,14 @@ use Rattle.clock_policy.specs.declared.key.Key.{Key}
 use Rattle.clock_policy.specs.Text.{key_text}
 use Rattle.guest_strings.specs.declared.reference.Reference.{Reference}
 use Rattle.page_policies.specs.Optimal.{next_use}
-
--- the id of an object that stands for a page
-abbrev pub id_of : Key → ℕ
-id_of page = page.process * 2 ^ 20 + page.vpn
+use Rattle.trace_files.specs.PageIds.{id_of}
 
 -- time, id and size, which is 1
+abbrev pub csv_row : ℕ → Key → List ℕ
+csv_row time page = decimal time ++ codes "," ++ decimal (id_of page) ++ codes ",1"
+
 abbrev pub csv_line : ℕ → Key → List ℕ
-csv_line time page = decimal time ++ codes "," ++ decimal (id_of page) ++ codes ",1" ++ 10 ∷ []
+csv_line time page = csv_row time page ++ 10 ∷ []
 
 -- a page, and behind it a `w` where it is written
 abbrev pub reference_line : Reference → List ℕ

@@ -9,7 +9,8 @@ use Rattle.page_policies.specs.Optimal.{next_use}
 use Rattle.page_policies.specs.NextUses.{next_uses}
 use Rattle.whole_strings.specs.PlaceStepLaws.{Uncovered, uncover, length_uses}
 use Rattle.byteorder.specs.Endian.{little_bytes}
-use Rattle.trace_files.specs.Written.{id_of, short_time, next_time, record_bytes, records}
+use Rattle.trace_files.specs.PageIds.{id_of}
+use Rattle.trace_files.specs.Written.{short_time, next_time, record_bytes, records}
 
 -- a record, part by part
 pub record_written : (a b c d e : Option (List ℕ)) (time id next : ℕ) (page : Key) → id ≡ id_of page → Appends a b (little_bytes 4 time) → Appends b c (little_bytes 8 id) → Appends c d (little_bytes 4 1) → Appends d e (little_bytes 8 next)

@@ -3,9 +3,9 @@
 ghost use Rattle.std.specs.Prelude.{◌≡◌, ◌-◌, Some, None, codes, nat_eq, position, take, length};
 ghost use Rattle.std.specs.List.{starts_with};
 ghost use Rattle.text_lines.specs.Text.{words_of};
-ghost use Rattle.trace_files.specs.PageLines.{is_comma};
 ghost use Rattle.trace_files.specs.AddressLines.{
   access_to,
+  is_comma,
   hexadecimal_in,
   is_of_valgrind,
   lackey_kind,

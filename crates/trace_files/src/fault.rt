@@ -1,5 +1,6 @@
 //! Why a trace is not read to its end.
 
+use crate::compression::Compression;
 use std::alloc::AllocError;
 use thiserror::Error;
 
@@ -22,6 +23,9 @@ pub enum TraceFault<'a> {
     Text(&'a str),
     #[error("record {0}: bad record: {1} bytes of 24")]
     Record(u64, usize),
+    /// A file as a program makes it that compresses files.
+    #[error("{0}: it is compressed by {1}; what `{1} -dc` makes of it can be read, by the name -")]
+    Compressed(&'a str, Compression),
 }
 
 impl From<AllocError> for TraceFault<'_> {

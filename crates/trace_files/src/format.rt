@@ -1,12 +1,23 @@
 //! How a string of references is written.
 
+/// Which column of a line has the ids.
+#[derive(Clone, Copy, Debug, PartialEq, Eq)]
+pub struct IdColumn {
+    /// Its place, counted from 0.
+    pub place: usize,
+    /// What separates the columns; where it is not known, the first separator of each line.
+    pub separator: Option<u8>,
+}
+
 /// How a string of references is written.
 #[derive(Clone, Copy, Debug, PartialEq, Eq)]
 pub enum TraceFormat {
     /// A page a line: the numbers of a process and of a page.
     Text,
-    /// `time,id,size`.
+    /// `time,id,size`: a line with the names of columns, and then a reference a line.
     Csv,
+    /// Such a table without a line of names.
+    Columns(IdColumn),
     /// The binary format of libCacheSim whose records know the next use.
     OracleGeneral,
     /// What valgrind's lackey writes: an access a line.

@@ -5,8 +5,9 @@ ghost use Rattle.std.specs.List.{flat_map};
 ghost use Rattle.text_lines.specs.Text.{lines_of};
 ghost use Rattle.clock_policy.specs.declared.key.Key.{Key};
 ghost use Rattle.guest_strings.specs.declared.reference.Reference.{Reference};
-ghost use Rattle.trace_files.specs.Written.{id_of, record_bytes, reference_line};
-ghost use Rattle.trace_files.specs.PageLines.{AreReferences, IsPage, line_reference, page_of_id};
+ghost use Rattle.trace_files.specs.PageIds.{page_of_id};
+ghost use Rattle.trace_files.specs.Written.{record_bytes, reference_line};
+ghost use Rattle.trace_files.specs.PageLines.{AreReferences, IsPage, line_reference};
 ghost use Rattle.trace_files.specs.PageLines.{record_page};
 
 /// The lines that are written of references are read as these references.
@@ -17,11 +18,11 @@ pub fn written_lines_are_read()
         ≡ map (λ (reference : Reference). Some reference) references }
 {}
 
-/// A record that is written of a page is read as the page of its id.
+/// A record that is written of a page is read as that page.
 #[tactic(auto, using(crate::specs::ReadBackLaws::record_of_page))]
 pub fn written_records_are_read()
     ensures { (time next : ℕ) (page : Key) → IsPage page
-        → record_page (record_bytes time page next) ≡ Some (page_of_id (id_of page)) }
+        → record_page (record_bytes time page next) ≡ Some page }
 {}
 
 /// Each id has a page of its own.

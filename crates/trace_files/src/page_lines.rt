@@ -1,21 +1,10 @@
 //! Lines and records of traces of pages.
 
-ghost use Rattle.std.specs.Prelude.{◌≡◌, ◌<◌, position, option_copied, slice_get};
+ghost use Rattle.std.specs.Prelude.{◌≡◌, position};
 ghost use Rattle.std.specs.Option.{option_map};
-ghost use Rattle.std.specs.List.{slice_split};
 ghost use Rattle.trace_files.specs.Ids.{id_in, written_below};
-ghost use Rattle.trace_files.specs.PageLines.{
-  page_of_id,
-  page_in,
-  is_bar,
-  is_comma,
-  line_reference,
-  trimmed,
-  is_id_name,
-  column_of_ids,
-  csv_page,
-  record_page,
-};
+ghost use Rattle.trace_files.specs.PageIds.{page_of_id};
+ghost use Rattle.trace_files.specs.PageLines.{is_bar, line_reference, page_in, record_page};
 
 use crate::number_text::id_in;
 use byteorder::{ByteOrder, LittleEndian};
@@ -24,7 +13,7 @@ use guest_strings::Reference;
 use text_lines::{next_word, number};
 
 /// A page that stands for an object: each id has its own.
-#[tactic(auto, unfolding(crate::specs::PageLines::page_of_id))]
+#[tactic(auto, unfolding(crate::specs::PageIds::page_of_id))]
 pub(crate) fn page_of_id(id: u64) -> Key
     ensures { result ≡ page_of_id id }
 {
@@ -34,52 +23,8 @@ pub(crate) fn page_of_id(id: u64) -> Key
     }
 }
 
-/// Which column of a line of names has the ids, counted from 0.
-pub(crate) fn column_of_ids(names: &[u8]) -> Option<usize>
-    ensures { result ≡ column_of_ids names.now }
-{
-    names
-        .split(|byte| *byte == b',')
-        .position(|name| is_id_name(trimmed(name)))
-}
-
-/// A text without the white space at both its ends.
-fn trimmed(text: &[u8]) -> &[u8]
-    ensures { result.now ≡ trimmed text.now }
-{
-    text.trim_ascii()
-}
-
-/// What a column of ids may be called.
-#[tactic(auto, unfolding(crate::specs::PageLines::is_id_name))]
-fn is_id_name(name: &[u8]) -> bool
-    ensures { result ≡ is_id_name name.now }
-{
-    name == b"id".as_slice()
-        || name == b"obj_id".as_slice()
-        || name == b"object_id".as_slice()
-        || name == b"key".as_slice()
-        || name == b"page".as_slice()
-}
-
-/// What stands in a column of a line.
-fn field(line: &[u8], column: usize) -> Option<&[u8]>
-    ensures { option_copied result ≡ slice_get (slice_split is_comma line.now) column }
-{
-    line.split(|byte| *byte == b',').nth(column)
-}
-
-/// The page of such a line: its id is in this column, and what else stands there is not looked at.
-#[tactic(auto, unfolding(crate::specs::PageLines::csv_page))]
-pub(crate) fn page_of_csv(line: &[u8], column: usize) -> Option<Key>
-    ensures { result ≡ csv_page column line.now }
-{
-    let field = field(line, column)?;
-    page_of_number(trimmed(field))
-}
-
 /// The page that an id stands for.
-fn page_of_number(number: &[u8]) -> Option<Key>
+pub(crate) fn page_of_number(number: &[u8]) -> Option<Key>
     ensures { result ≡ option_map page_of_id (id_in number.now) }
 {
     let id = id_in(number)?;

@@ -16,7 +16,6 @@ ghost use Rattle.std.specs.Option.{option_map};
 ghost use Rattle.trace_files.specs.References.{
   Ends,
   Gives,
-  is_at_names,
   is_of_addresses,
   trace_of,
 };
@@ -29,13 +28,12 @@ ghost use Rattle.trace_files.specs.ReferenceAnswers.{
   Tells,
   TellsPages,
   name_of,
-  pages_left,
   to_come,
 };
 
-use crate::accesses::next_joined;
 use crate::fault::TraceFault;
 use crate::format::TraceFormat;
+use crate::next_reference::{next_due, next_joined};
 use crate::pieces::Pieces;
 use clock_policy::Key;
 use guest_strings::Reference;
@@ -56,8 +54,6 @@ pub const BLOCK: usize = 1 << 14;
 pub struct TraceFile<'a, B: BufRead> {
     format: TraceFormat,
     pub(crate) pieces: Pieces<'a, B>,
-    /// which column of a line has the id, counted from 0
-    column: usize,
     /// the page of an access's last byte, where it is another than that of its first
     second: Option<Reference>,
     /// the last reference of a trace of addresses: the next one may be to the same page
@@ -74,7 +70,6 @@ impl<'a, B: BufRead + Drop> TraceFile<'a, B> {
         TraceFile {
             format,
             pieces: Pieces::new(alloc, name, file),
-            column: 0,
             second: None,
             held: None,
         }
@@ -105,7 +100,7 @@ impl<'a, B: BufRead + Drop> TraceFile<'a, B> {
         Ok(())
     }
 
-    /// The next reference, or `None` at the end. Those of `csv` and `oraclegeneral` never say that they write.
+    /// The next reference, or `None` at the end. Those of tables and records never say that they write.
     pub fn next(&mut self) -> Result<Option<Reference>, TraceFault<'a>>
         ensures told { Tells Gives result (to_come B.remaining self.old)
             (to_come B.remaining self.new) }
@@ -115,16 +110,16 @@ impl<'a, B: BufRead + Drop> TraceFile<'a, B> {
         if is_of_addresses(self.format) {
             return next_joined(
                 &mut self.pieces,
+                &mut self.format,
                 &mut self.held,
                 &mut self.second,
-                self.format,
             );
         }
-        next_page(&mut self.pieces, &mut self.column, self.format)
+        next_due(&mut self.pieces, &mut self.format, &mut self.second)
     }
 }
 
-/// Opens a trace. Which files there are and what they hold no contract can name: all that the reader of this one holds is still to come.
+/// Opens a trace, or the standard input by the name `-`. Which files there are and what they hold no contract can name: all that the reader of this one holds is still to come.
 pub fn open_trace<'a, R: Files + AllocGlobal>(
     rt: &R,
     name: &'a str,
@@ -135,7 +130,12 @@ pub fn open_trace<'a, R: Files + AllocGlobal>(
     ensures fault { IfErr result (λ fault. (fault ≡ TraceFault.NoMemory) ⊎ IsUnread name.now
         fault) }
 {
-    trace_over(rt.alloc(), name, format, fs::open(rt, name))
+    trace_over(rt.alloc(), name, format, fs::open(rt, path_of(name)))
+}
+
+/// Where the trace of a name is: `-` is the standard input.
+fn path_of(name: &str) -> &str {
+    if name == "-" { "/dev/stdin" } else { name }
 }
 
 /// The trace in what was opened, from its front.
@@ -159,40 +159,15 @@ fn trace_over<'a, F: Read + Drop>(
     }
 }
 
-/// The page of the next line or record; of a table, which column has the ids is read before.
-fn next_page<'a, B: BufRead + Drop>(
-    pieces: &mut Pieces<'a, B>,
-    column: &mut usize,
-    format: TraceFormat,
-) -> Result<Option<Reference>, TraceFault<'a>>
-    ensures told { Tells Gives result (pages_left B.remaining format column.old pieces.old)
-        (pages_left B.remaining format column.new pieces.new) }
-    ensures named { IfErr result (Names pieces.old.name.now) }
-    ensures kept { pieces.new.name ≡ pieces.old.name }
-{
-    if !is_at_names(format, pieces.count) {
-        return pieces.next_row(format, *column);
-    }
-    *column = pieces.read_names()?;
-    pieces.next_row(format, *column)
-}
-
 /// Whether a trace tells of addresses, and of pages otherwise.
 fn is_of_addresses(format: TraceFormat) -> bool
     ensures { result ≡ is_of_addresses format }
 {
     match format {
-        TraceFormat::Text | TraceFormat::Csv | TraceFormat::OracleGeneral => false,
+        TraceFormat::Text
+        | TraceFormat::Csv
+        | TraceFormat::Columns(_)
+        | TraceFormat::OracleGeneral => false,
         TraceFormat::Lackey | TraceFormat::DynamoRio => true,
-    }
-}
-
-/// Whether the names of a table's columns come next.
-fn is_at_names(format: TraceFormat, count: u64) -> bool
-    ensures { result ≡ is_at_names format count }
-{
-    match format {
-        TraceFormat::Csv => count == 0,
-        _ => false,
     }
 }

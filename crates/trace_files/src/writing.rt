@@ -1,10 +1,11 @@
-//! What is written of a string of references. To libCacheSim an object is a page: its id is the process's number times 2^20, and the page's
+//! What is written of a string of references. To libCacheSim an object is a page: its id is the process's number times 2^32, and the page's
 //! number; its size is 1, so that the size of a cache is its number of frames. Times count references from 1.
 
 ghost use Rattle.std.specs.Prelude.{◌≡◌, ◌+◌, ◌<◌, ◌^◌, length, OnOk};
 ghost use Rattle.std.specs.Io.KnownBytes.{Appends};
 ghost use Rattle.page_policies.specs.NextUses.{next_uses};
-ghost use Rattle.trace_files.specs.Written.{id_of, csv_line, reference_line, next_time, short_time};
+ghost use Rattle.trace_files.specs.PageIds.{id_of};
+ghost use Rattle.trace_files.specs.Written.{csv_line, reference_line, next_time, short_time};
 ghost use Rattle.trace_files.specs.Written.{record_bytes, records};
 
 use byteorder::{LittleEndian, WriteBytesExt};
@@ -16,8 +17,8 @@ use std::io::Write;
 /// The columns of the text.
 pub const CSV_HEADER: &str = "time,id,size";
 
-/// How many pages a process may have numbers for.
-const PAGE_NUMBERS: u64 = 1 << 20;
+/// How many numbers a page of a process may have.
+const PAGE_NUMBERS: u64 = 1 << 32;
 
 /// The next use of a page that is not used again: -1 in two's complement.
 const NO_NEXT: u64 = u64::MAX;

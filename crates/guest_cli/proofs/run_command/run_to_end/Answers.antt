@@ -21,7 +21,7 @@ pieces-init g c =
 
 pub write_more-requires-in-pieces : goal.write_more-requires-in-pieces
 write_more-requires-in-pieces g c =
-    let grown = piece_grows c.run_turns-ran.result c.min-most.result c.pieces.turn c.run_turns-ran.new.turn c.pieces.process c.run_turns-ran.new.process c.run_turns-ran.ensures.ran c.run_turns-ran.ensures.memory in
+    let grown = piece_grows c.run_turns-ran.result c.min-most.result c.pieces.turn c.run_turns-ran.new.turn c.pieces.process c.run_turns-ran.new.self c.run_turns-ran.ensures.ran c.run_turns-ran.ensures.memory in
     let size : length c.output-in-pieces.result.now ≡ length (c.pieces.process.environment.output ++ grown.0) = ap length (c.output-in-pieces.ensures ∙ grown.1) in
     omega (arith, size, length-append c.pieces.process.environment.output grown.0, c.pieces.invariant.counted)
 
@@ -30,13 +30,13 @@ pieces-preserved g c =
     let process : Process = c.args.process.now in
     let kept = c.pieces.invariant in
     let few = c.in-Ok.ensures.within in
-    let grown = piece_grows c.run_turns-ran.result c.min-most.result c.pieces.turn c.run_turns-ran.new.turn c.pieces.process c.run_turns-ran.new.process c.run_turns-ran.ensures.ran c.run_turns-ran.ensures.memory in
+    let grown = piece_grows c.run_turns-ran.result c.min-most.result c.pieces.turn c.run_turns-ran.new.turn c.pieces.process c.run_turns-ran.new.self c.run_turns-ran.ensures.ran c.run_turns-ran.ensures.memory in
     record {
-      ran = more_turns c.pieces.steps c.in-Ok.ran (first_turn process) c.pieces.turn c.run_turns-ran.new.turn process c.pieces.process c.run_turns-ran.new.process kept.ran c.in-Ok.ensures.ran;
+      ran = more_turns c.pieces.steps c.in-Ok.ran (first_turn process) c.pieces.turn c.run_turns-ran.new.turn process c.pieces.process c.run_turns-ran.new.self kept.ran c.in-Ok.ensures.ran;
       live = c.run_turns-ran.ensures.live;
       within = omega (arith, few);
       counted = c.in_ok-written-2.ensures.all ∙ ap length c.output-in-pieces.ensures;
-      written = piece_written _ _ _ c.pieces.process.environment.output c.run_turns-ran.new.process.environment.output c.output-in-pieces.result.now c.pieces.written kept.written grown kept.counted c.output-in-pieces.ensures c.in_ok-written-2.ensures.more;
+      written = piece_written _ _ _ c.pieces.process.environment.output c.run_turns-ran.new.self.environment.output c.output-in-pieces.result.now c.pieces.written kept.written grown kept.counted c.output-in-pieces.ensures c.in_ok-written-2.ensures.more;
     }
 
 pub returns-in-Err : goal.returns-in-Err
@@ -45,13 +45,13 @@ returns-in-Err g c =
     let kept = c.pieces.invariant in
     let wants = c.in-Err.ensures.memory.1 in
     let few = c.in-Err.ensures.memory.0 in
-    let grown = piece_grows c.run_turns-ran.result c.min-most.result c.pieces.turn c.run_turns-ran.new.turn c.pieces.process c.run_turns-ran.new.process c.run_turns-ran.ensures.ran c.run_turns-ran.ensures.memory in
+    let grown = piece_grows c.run_turns-ran.result c.min-most.result c.pieces.turn c.run_turns-ran.new.turn c.pieces.process c.run_turns-ran.new.self c.run_turns-ran.ensures.ran c.run_turns-ran.ensures.memory in
     record {
       turn = wants.turn;
-      ran = more_turns c.pieces.steps c.in-Err.stop.steps (first_turn process) c.pieces.turn wants.turn process c.pieces.process c.run_turns-ran.new.process kept.ran wants.ran;
+      ran = more_turns c.pieces.steps c.in-Err.stop.steps (first_turn process) c.pieces.turn wants.turn process c.pieces.process c.run_turns-ran.new.self kept.ran wants.ran;
       within = omega (arith, few);
-      ended = Wanting (goes_on wants.turn c.run_turns-ran.new.process wants.wants.may) wants.wants;
-      written = piece_written _ _ _ c.pieces.process.environment.output c.run_turns-ran.new.process.environment.output c.output-in-pieces.result.now c.pieces.written kept.written grown kept.counted c.output-in-pieces.ensures c.in_ok-written-2.ensures.more;
+      ended = Wanting (goes_on wants.turn c.run_turns-ran.new.self wants.wants.may) wants.wants;
+      written = piece_written _ _ _ c.pieces.process.environment.output c.run_turns-ran.new.self.environment.output c.output-in-pieces.result.now c.pieces.written kept.written grown kept.counted c.output-in-pieces.ensures c.in_ok-written-2.ensures.more;
     }
 
 pub returns-in-Some : goal.returns-in-Some
@@ -59,13 +59,13 @@ returns-in-Some g c =
     let process : Process = c.args.process.now in
     let kept = c.pieces.invariant in
     let few = c.in-Ok.ensures.within in
-    let grown = piece_grows c.run_turns-ran.result c.min-most.result c.pieces.turn c.run_turns-ran.new.turn c.pieces.process c.run_turns-ran.new.process c.run_turns-ran.ensures.ran c.run_turns-ran.ensures.memory in
+    let grown = piece_grows c.run_turns-ran.result c.min-most.result c.pieces.turn c.run_turns-ran.new.turn c.pieces.process c.run_turns-ran.new.self c.run_turns-ran.ensures.ran c.run_turns-ran.ensures.memory in
     record {
       turn = c.run_turns-ran.new.turn;
-      ran = more_turns c.pieces.steps c.in-Ok.ran (first_turn process) c.pieces.turn c.run_turns-ran.new.turn process c.pieces.process c.run_turns-ran.new.process kept.ran c.in-Ok.ensures.ran;
+      ran = more_turns c.pieces.steps c.in-Ok.ran (first_turn process) c.pieces.turn c.run_turns-ran.new.turn process c.pieces.process c.run_turns-ran.new.self kept.ran c.in-Ok.ensures.ran;
       within = omega (arith, few);
       ended = Itself c.in-Some.end (sym c.end.ensures ∙ c.in-Some.is);
-      written = piece_written _ _ _ c.pieces.process.environment.output c.run_turns-ran.new.process.environment.output c.output-in-pieces.result.now c.pieces.written kept.written grown kept.counted c.output-in-pieces.ensures c.in_ok-written-2.ensures.more;
+      written = piece_written _ _ _ c.pieces.process.environment.output c.run_turns-ran.new.self.environment.output c.output-in-pieces.result.now c.pieces.written kept.written grown kept.counted c.output-in-pieces.ensures c.in_ok-written-2.ensures.more;
     }
 
 pub returns-in-Some-end : goal.returns-in-Some-end

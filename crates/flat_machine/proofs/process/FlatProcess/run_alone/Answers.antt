@@ -1,7 +1,8 @@
-use Rattle.std.proofs.Common.{◌+◌, Some, ap, ◌∙◌, sym, subst, arith}
+use Rattle.std.proofs.Common.{◌≡◌, ◌+◌, true, Some, ap, ◌∙◌, sym, subst, arith}
 use Rattle.flat_machine.specs.RunLaws.{by_turns_none, by_turns_more}
 use Rattle.flat_machine.specs.Refusals.{WantsAt}
-use Rattle.flat_machine.specs.StepLaws.{goes_on_alike}
+use Rattle.flat_machine.specs.StepLaws.{goes_on_alike, is_live_in}
+use Rattle.flat_machine.specs.Process.{may_step}
 use Rattle.flat_machine.proofs.Turning.{again, next_turn, more_turns, wants_after}
 use Rattle.flat_machine.proofs.process.FlatProcess.run_alone.Goals as goal
 
@@ -43,3 +44,6 @@ returns-in-Err-clause-memory c =
       subst (λ p. WantsAt c.args.hart c.args.self.now (c.loop-steps.steps + plain.result.done) p) (sym c.in-Err.ensures.err)
           (wants_after (c.loop-steps.steps + plain.result.done) c.args.hart c.args.hart c.args.self.now plain.new.self before c.in-Err.ensures.wants),
     )
+
+pub returns-in-Err-clause-live : goal.returns-in-Err-clause-live
+returns-in-Err-clause-live c = is_live_in c.args.hart c.end_step.new.self (subst (λ p. may_step c.args.hart p ≡ true) (sym c.in-Err.ensures.err) c.in-Err.ensures.wants.may)

@@ -1,29 +1,6 @@
-use Rattle.std.proofs.Common.{Some, ap, sym, ◌∙◌, arith}
 use Rattle.flat_machine.specs.ByTurns.{first_turn}
-use Rattle.flat_machine.specs.RunLaws.{by_turns_none}
-use Rattle.flat_machine.proofs.Turning.{more_turns, wants_later}
+use Rattle.flat_machine.proofs.Turning.{ran_from}
 use Rattle.flat_machine.proofs.process.FlatProcess.run_for.Goals as goal
 
-pub loop-steps-init : goal.loop-steps-init
-loop-steps-init c = record {
-  ran = by_turns_none (first_turn c.args.self.now) c.args.self.now ∙ ap (λ hart. Some (hart, c.args.self.now)) (sym c.first_turn-hart.ensures.turn);
-  within = omega arith;
-  lives = c.first_turn-hart.ensures.lives;
-}
-
-pub returns-in-Err-clause-memory : goal.returns-in-Err-clause-memory
-returns-in-Err-clause-memory c =
-    let fewer = c.in-Err.ensures.memory.0 in (
-      omega arith,
-      wants_later c.loop-steps.steps c.in-Err.stop.steps (first_turn c.args.self.now) c.loop-steps.hart c.args.self.now c.loop-steps.self c.run_turn.new.self c.loop-steps.invariant.ran c.in-Err.ensures.memory.1,
-    )
-
-pub loop-steps-preserved : goal.loop-steps-preserved
-loop-steps-preserved c =
-    let most = c.in-Ok.ensures.within.1 in
-    record {
-      ran = more_turns c.loop-steps.steps c.in-Ok.more (first_turn c.args.self.now) c.loop-steps.hart c.turn_after-hart.result c.args.self.now c.loop-steps.self c.run_turn.new.self c.loop-steps.invariant.ran
-          (c.in-Ok.ensures.ran ∙ ap (λ hart. Some (hart, c.run_turn.new.self)) (sym c.turn_after-hart.ensures.turn));
-      within = omega arith;
-      lives = c.turn_after-hart.ensures.lives;
-    }
+pub returns-clause-ran : goal.returns-clause-ran
+returns-clause-ran c = ran_from c.run_turns.result c.first_turn-turn.result (first_turn c.args.self.now) c.run_turns.new.turn c.args.self.now c.run_turns.new.self c.first_turn-turn.ensures.turn c.run_turns.ensures.ran

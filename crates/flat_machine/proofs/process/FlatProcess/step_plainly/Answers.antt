@@ -1,10 +1,10 @@
 -- The laws of a plain run, for the process that is seen.
-use Rattle.std.proofs.Common.{◌≡◌, ◌-◌, true, arith, ap, sym, ◌∙◌, length-set}
-use Rattle.flat_machine.specs.Process.{Process, may_step, flat_step}
+use Rattle.std.proofs.Common.{◌≡◌, ◌-◌, true, replicate, arith, ap, sym, ◌∙◌, length-set}
+use Rattle.flat_machine.specs.Process.{Process, may_step, flat_step, flat_run}
 use Rattle.flat_machine.specs.ByTurns.{by_turns, turn_after}
 use Rattle.decoded_pages.proofs.Runs.{all_shown_on}
 use Rattle.flat_machine.proofs.PlainCode.{plain_keeps}
-use Rattle.flat_machine.proofs.PlainSteps.{taken_plainly, none_plainly, one_plainly, stops_next}
+use Rattle.flat_machine.proofs.PlainSteps.{taken_plainly, none_plainly, one_plainly, run_plainly, stops_next}
 use Rattle.flat_machine.proofs.process.FlatProcess.step_plainly.Goals as goal
 
 pub returns-clause-none : goal.returns-clause-none
@@ -27,6 +27,13 @@ returns-clause-alone c = λ alone.
     let alone_here : turn_after c.args.hart process ≡ c.args.hart = ap (turn_after c.args.hart) c.self.view_is ∙ alone in
     ap (by_turns (c.args.most - c.run_plainly-halt.result.left) c.args.hart) (sym c.self.view_is)
     ∙ (taken_plainly (c.args.most - c.run_plainly-halt.result.left) c.args.hart process c.index_mut-regs.result.now c.run_plainly-halt.new.regs c.run_plainly-halt.new.memory c.self.invariant.whole here alone_here c.index_mut-regs.ensures.value c.run_plainly-halt.ensures.ran).ran
+
+pub returns-clause-ran : goal.returns-clause-ran
+returns-clause-ran c =
+    let process : Process = record { harts = c.self.inside.harts.items; environment = c.self.inside.env; memory = c.self.inside.memory; ending = c.self.inside.end } in
+    let here : may_step c.args.hart process ≡ true = ap (may_step c.args.hart) c.self.view_is ∙ c.requires in
+    ap (flat_run (replicate (c.args.most - c.run_plainly-halt.result.left) c.args.hart)) (sym c.self.view_is)
+    ∙ run_plainly (c.args.most - c.run_plainly-halt.result.left) c.args.hart process c.index_mut-regs.result.now c.run_plainly-halt.new.regs c.run_plainly-halt.new.memory c.self.invariant.whole here c.index_mut-regs.ensures.value c.run_plainly-halt.ensures.ran
 
 pub returns-clause-stopped : goal.returns-clause-stopped
 returns-clause-stopped c = λ fewer.

@@ -1,0 +1,2 @@
+pub mod GuestStatus
+pub mod WholeInputs

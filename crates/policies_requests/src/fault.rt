@@ -1,0 +1,36 @@
+//! Why words are no request.
+
+use crate::policy_names::PolicyWords;
+use std::alloc::AllocError;
+
+/// Why words are no request.
+#[derive(Debug, Drop, thiserror::Error)]
+pub enum RequestFault<'a> {
+    #[error("no memory")]
+    NoMemory,
+    #[error("bad usage")]
+    BadUsage,
+    /// Words that are no request, as the library that reads them says it. Help that was asked for is no fault.
+    #[error("{0}")]
+    Words(clap::Error),
+    /// An option's value, and what it may be.
+    #[error("--{0} {1}: {2}")]
+    Value(&'static str, &'a str, &'static str),
+    /// A word that names no policy, and those that do.
+    #[error("--policies {0}: {1}")]
+    Policies(&'a str, PolicyWords),
+    /// Two options that don't go together, and why.
+    #[error("--{0} with --{1}: {2}")]
+    Together(&'static str, &'static str, &'static str),
+    /// A number of frames that one of the policies can't have.
+    #[error("{0} frames: clock-pro and clock-pro-used have 4 to 4096; name others by --policies")]
+    ClockProFrames(usize),
+    #[error("{0} images: 64 run at most")]
+    ManyImages(usize),
+}
+
+impl From<AllocError> for RequestFault<'_> {
+    fn from(_: AllocError) -> Self {
+        RequestFault::NoMemory
+    }
+}

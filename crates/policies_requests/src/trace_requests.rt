@@ -1,0 +1,124 @@
+//! Requests on traces.
+
+use crate::fault::RequestFault;
+use crate::options::{is_given, listed_frames, number_from, printing, trace};
+use crate::policy_choice::{replayed_policies, writing_policies};
+use crate::request::{
+    CurveRequest, PoliciesRequest, ReplayRequest, TotalsRequest, WriteBacksRequest,
+};
+use crate::trace_formats::format;
+use clap::ArgMatches;
+use machine_limits::MOST_FRAMES;
+use miss_counts::usual_frames;
+use page_policies::Frames;
+use std::alloc::Global;
+use std::num::NonZeroU32;
+
+/// What `--skip` may be.
+const SKIPPED: &str = "a number of references, from 0 to 4294967295";
+
+/// What `--sample` may be.
+const SAMPLES: &str = "one page in so many, from 1 to 4294967295";
+
+/// Why working sets go with no policy and no sample.
+const WORKING_SETS: &str = "a working set goes by a window, and by no number of frames";
+
+pub(crate) fn replay_request<'a>(
+    alloc: Global,
+    matches: &ArgMatches<'a>,
+) -> Result<PoliciesRequest<'a>, RequestFault<'a>> {
+    let skip = number_from(matches, "skip", 0, 0, u32::MAX, SKIPPED)?;
+    let format = format(matches)?;
+    let trace = trace(matches)?;
+    let frames = trace_frames(alloc, matches)?;
+    let wanted = replayed_policies(alloc, matches, frames.as_slice(), skip)?;
+    Ok(PoliciesRequest::Replay(ReplayRequest {
+        frames,
+        format,
+        wanted,
+        skip: u64::from(skip),
+        printing: printing(matches),
+        is_told: is_given(matches, "progress"),
+        trace,
+    }))
+}
+
+/// The numbers of frames that a trace is played with.
+fn trace_frames<'a>(
+    alloc: Global,
+    matches: &ArgMatches<'a>,
+) -> Result<Vec<Frames>, RequestFault<'a>> {
+    match matches.get_str("frames") {
+        Some(list) => listed_frames(alloc, list),
+        None => Ok(usual_frames(alloc, MOST_FRAMES as usize)?),
+    }
+}
+
+pub(crate) fn write_backs_request<'a>(
+    alloc: Global,
+    matches: &ArgMatches<'a>,
+) -> Result<PoliciesRequest<'a>, RequestFault<'a>> {
+    let format = format(matches)?;
+    let trace = trace(matches)?;
+    let frames = trace_frames(alloc, matches)?;
+    let policies = writing_policies(alloc, matches, frames.as_slice())?;
+    Ok(PoliciesRequest::WriteBacks(WriteBacksRequest {
+        frames,
+        format,
+        policies,
+        printing: printing(matches),
+        is_told: is_given(matches, "progress"),
+        trace,
+    }))
+}
+
+pub(crate) fn curve_request<'a>(
+    matches: &ArgMatches<'a>,
+) -> Result<PoliciesRequest<'a>, RequestFault<'a>> {
+    let one_in = number_from(matches, "sample", 0, 1, u32::MAX, SAMPLES)?;
+    let has_optimum = is_given(matches, "optimum");
+    let is_of_windows = is_given(matches, "working-sets");
+    if let Some(wrong) = curves_together(one_in > 0, has_optimum, is_of_windows) {
+        return Err(wrong);
+    }
+    let format = format(matches)?;
+    let trace = trace(matches)?;
+    Ok(PoliciesRequest::Curve(CurveRequest {
+        format,
+        has_optimum,
+        is_of_windows,
+        one_in: NonZeroU32::new(one_in),
+        printing: printing(matches),
+        is_told: is_given(matches, "progress"),
+        trace,
+    }))
+}
+
+/// What is wrong with curves that are asked for together, if anything is.
+fn curves_together<'a>(
+    is_sampled: bool,
+    has_optimum: bool,
+    is_of_windows: bool,
+) -> Option<RequestFault<'a>> {
+    match (is_of_windows, has_optimum, is_sampled) {
+        (true, true, _) => Some(RequestFault::Together("working-sets", "optimum", WORKING_SETS)),
+        (true, false, true) => Some(RequestFault::Together("working-sets", "sample", WORKING_SETS)),
+        (false, true, true) => Some(RequestFault::Together(
+            "sample",
+            "optimum",
+            "a sample estimates what LRU misses alone",
+        )),
+        _ => None,
+    }
+}
+
+pub(crate) fn totals_request<'a>(
+    matches: &ArgMatches<'a>,
+) -> Result<PoliciesRequest<'a>, RequestFault<'a>> {
+    let format = format(matches)?;
+    Ok(PoliciesRequest::Totals(TotalsRequest {
+        format,
+        is_told: is_given(matches, "progress"),
+        trace: trace(matches)?,
+    }))
+}

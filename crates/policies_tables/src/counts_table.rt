@@ -1,0 +1,196 @@
+//! The table of misses: a row for each number of frames.
+
+use crate::numbers::{part_of, write_blanks, write_ratio};
+use crate::printing::Printing;
+use miss_counts::{PolicyCount, PolicyCounts};
+use std::io;
+use std::io::Write;
+
+/// The optimum's name in lists and tables.
+pub const OPTIMUM: &str = "optimum";
+
+/// How wide a column of counts is.
+const WIDE: usize = 11;
+
+/// How wide a column is that also has how many times the optimum's misses they are.
+const WIDER: usize = 18;
+
+/// A row of a table: what was counted has a column.
+#[derive(Clone, Copy)]
+pub(crate) struct TableRow<'r> {
+    pub(crate) frames: usize,
+    pub(crate) references: u64,
+    pub(crate) counts: &'r [PolicyCount],
+    pub(crate) optimum: Option<u64>,
+}
+
+fn row_of(counts: &PolicyCounts) -> TableRow<'_> {
+    TableRow {
+        frames: counts.frames.number(),
+        references: counts.references,
+        counts: counts.counts.as_slice(),
+        optimum: counts.optimum,
+    }
+}
+
+/// Writes a row for each number of frames.
+pub fn write_table<W: Write>(
+    rows: &[PolicyCounts],
+    printing: Printing,
+    out: &mut W,
+) -> io::Result<()> {
+    if let Some(counts) = rows.first() {
+        write_any_head(&row_of(counts), printing, out)?;
+    }
+    for counts in rows {
+        write_any_row(&row_of(counts), printing, out)?;
+    }
+    Ok(())
+}
+
+pub(crate) fn write_any_head<W: Write>(
+    row: &TableRow<'_>,
+    printing: Printing,
+    out: &mut W,
+) -> io::Result<()> {
+    if printing.is_csv {
+        write_csv_head(row, out)
+    } else {
+        write_head(row, printing, out)
+    }
+}
+
+pub(crate) fn write_any_row<W: Write>(
+    row: &TableRow<'_>,
+    printing: Printing,
+    out: &mut W,
+) -> io::Result<()> {
+    if printing.is_csv {
+        write_csv_row(row, printing, out)
+    } else {
+        write_row(row, printing, out)
+    }
+}
+
+fn write_csv_head<W: Write>(row: &TableRow<'_>, out: &mut W) -> io::Result<()> {
+    write!(out, "frames")?;
+    for counted in row.counts {
+        write!(out, ",{}", counted.policy)?;
+    }
+    if row.optimum.is_some() {
+        write!(out, ",{OPTIMUM}")?;
+    }
+    writeln!(out)
+}
+
+fn write_csv_row<W: Write>(row: &TableRow<'_>, printing: Printing, out: &mut W) -> io::Result<()> {
+    write!(out, "{}", row.frames)?;
+    for counted in row.counts {
+        write_csv_value(counted.count, row.references, printing, out)?;
+    }
+    if let Some(misses) = row.optimum {
+        write_csv_value(misses, row.references, printing, out)?;
+    }
+    writeln!(out)
+}
+
+fn write_csv_value<W: Write>(
+    misses: u64,
+    references: u64,
+    printing: Printing,
+    out: &mut W,
+) -> io::Result<()> {
+    if printing.is_ratio {
+        out.write_all(b",")?;
+        write_ratio(misses, references, out)
+    } else {
+        write!(out, ",{misses}")
+    }
+}
+
+/// Whether beside each policy's misses stands how many times the optimum's they are.
+fn has_shares(row: &TableRow<'_>, printing: Printing) -> bool {
+    row.optimum.is_some() && !printing.is_ratio
+}
+
+fn write_head<W: Write>(row: &TableRow<'_>, printing: Printing, out: &mut W) -> io::Result<()> {
+    let wide = if has_shares(row, printing) {
+        WIDER
+    } else {
+        WIDE
+    };
+    write!(out, "frames")?;
+    let mut is_first = true;
+    for counted in row.counts {
+        write_name(
+            counted.policy.text(),
+            if is_first { WIDE } else { wide },
+            out,
+        )?;
+        is_first = false;
+    }
+    if row.optimum.is_some() {
+        write_name(OPTIMUM, if is_first { WIDE } else { wide }, out)?;
+    }
+    writeln!(out)
+}
+
+/// A name at the right of its column, one blank at least before it.
+fn write_name<W: Write>(name: &str, wide: usize, out: &mut W) -> io::Result<()> {
+    write_blanks(wide.saturating_sub(name.len()).max(1), out)?;
+    out.write_all(name.as_bytes())
+}
+
+fn write_row<W: Write>(row: &TableRow<'_>, printing: Printing, out: &mut W) -> io::Result<()> {
+    write!(out, "{:>6}", row.frames)?;
+    let mut is_first = true;
+    for counted in row.counts {
+        write_count(*counted, is_first, row, printing, out)?;
+        is_first = false;
+    }
+    if let Some(misses) = row.optimum {
+        write_value(misses, row.references, printing, out)?;
+    }
+    writeln!(out)
+}
+
+/// Writes a policy's count, and how many times the optimum's it is where both are told.
+fn write_count<W: Write>(
+    counted: PolicyCount,
+    is_first: bool,
+    row: &TableRow<'_>,
+    printing: Printing,
+    out: &mut W,
+) -> io::Result<()> {
+    let has_shares = has_shares(row, printing);
+    if is_first || !has_shares {
+        write_blanks(counted.policy.text().len().saturating_sub(WIDE - 1), out)?;
+    }
+    write_value(counted.count, row.references, printing, out)?;
+    match row.optimum {
+        Some(optimum) if has_shares => write_share(counted.count, optimum, out),
+        _ => Ok(()),
+    }
+}
+
+fn write_value<W: Write>(
+    misses: u64,
+    references: u64,
+    printing: Printing,
+    out: &mut W,
+) -> io::Result<()> {
+    if printing.is_ratio {
+        write_blanks(WIDE - 6, out)?;
+        write_ratio(misses, references, out)
+    } else {
+        write!(out, " {misses:>10}")
+    }
+}
+
+/// How many times so many others misses are, in hundredths that are rounded to the nearest; of a string of no references nothing misses,
+/// and it is 1.
+fn write_share<W: Write>(misses: u64, optimum: u64, out: &mut W) -> io::Result<()> {
+    let hundredths = part_of(misses, optimum, 100, 100);
+    let (whole, tenth, hundredth) = (hundredths / 100, hundredths / 10 % 10, hundredths % 10);
+    write!(out, " {whole:>3}.{tenth}{hundredth}")
+}

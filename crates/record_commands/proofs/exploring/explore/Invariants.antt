@@ -1,0 +1,6 @@
+use Rattle.record_commands.proofs.SoFar.{ExploredSoFar}
+use Rattle.record_commands.proofs.exploring.explore.Given as goal
+
+-- As many runs were counted as are done.
+abbrev pub invariant-runs : goal.invariant-runs
+invariant-runs g l = ExploredSoFar l.program.image.now l.program.input.now l.program.file l.request.seed l.request.until l.done l.rows.items

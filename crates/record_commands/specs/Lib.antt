@@ -1,0 +1,4 @@
+pub mod Rows
+pub mod RowLaws
+pub mod Exploring
+pub mod Replayed

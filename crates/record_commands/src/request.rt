@@ -1,0 +1,26 @@
+//! What is asked for.
+
+/// Run a program by the turns of a record.
+#[derive(Clone, Copy, Debug)]
+pub struct ReplayRequest<'a> {
+    pub record: &'a str,
+    pub image: &'a str,
+}
+
+/// Run a program by schedules that are chosen at random.
+#[derive(Clone, Copy, Debug)]
+pub struct ExploreRequest<'a> {
+    /// How many runs there are at most.
+    pub runs: u32,
+    /// The seed of the first run. The next run has the next number, and so on.
+    pub seed: u32,
+    /// Behind how many rows no run is begun; None: any number.
+    pub until: Option<u32>,
+    /// The most steps of a run.
+    pub limit: u64,
+    /// Where the record of the first run of each row is saved, if anywhere.
+    pub folder: Option<&'a str>,
+    /// Whether the table is written as lines of values with commas between.
+    pub is_csv: bool,
+    pub image: &'a str,
+}

@@ -1,0 +1,130 @@
+//! The lines or records of a trace, one after another.
+
+ghost use Rattle.std.specs.Prelude.{◌≡◌, IfErr, OnOk};
+ghost use Rattle.trace_files.specs.References.{
+  BadLine,
+  Breaks,
+  counted,
+  flaw_of,
+  is_of_addresses,
+  line_given,
+  piece_flaw,
+  record_flaw,
+  referring,
+};
+ghost use Rattle.trace_files.specs.ReferenceAnswers.{BreaksBy, Names, Tells, lines_left};
+
+use crate::compression::compression_at;
+use crate::fault::TraceFault;
+use crate::format::TraceFormat;
+use crate::pieces::Pieces;
+use crate::trace_lines::{LineReferences, TraceLine, format_behind, said, shows_text};
+use std::alloc::{AllocError, Global};
+use std::io::BufRead;
+
+/// How many characters of a bad line are told.
+const SHOWN: usize = 60;
+
+impl<'a, B: BufRead + Drop> Pieces<'a, B> {
+    /// What the next line that refers to pages refers to; others come before it.
+    pub(crate) fn next_references(
+        &mut self,
+        format: &mut TraceFormat,
+    ) -> Result<Option<LineReferences>, TraceFault<'a>>
+        ensures told { Tells referring result (lines_left B.remaining format.old self.old)
+            (lines_left B.remaining format.new self.new) }
+        ensures form { is_of_addresses format.new ≡ is_of_addresses format.old }
+        ensures named { IfErr result (Names self.old.name.now) }
+        ensures kept { self.new.name ≡ self.old.name }
+    {
+        'lines: for _ in 0..u64::MAX {
+            match self.next_line(format)? {
+                None => return Ok(None),
+                Some(TraceLine::Refers(references)) => return Ok(Some(references)),
+                Some(TraceLine::LeftOut | TraceLine::Names(_)) => {}
+            }
+        }
+        // nothing says that a reader ends: std gives up after as many turns
+        Err(TraceFault::CannotRead(self.name))
+    }
+
+    /// What the next line or record says.
+    fn next_line(&mut self, format: &mut TraceFormat) -> Result<Option<TraceLine>, TraceFault<'a>>
+        ensures told { Tells line_given result (lines_left B.remaining format.old self.old)
+            (lines_left B.remaining format.new self.new) }
+        ensures form { is_of_addresses format.new ≡ is_of_addresses format.old }
+        ensures named { IfErr result (Names self.old.name.now) }
+        ensures kept { self.new.name ≡ self.old.name }
+    {
+        if !self.read(*format)? {
+            return Ok(None);
+        }
+        match said(*format, self.count, self.last.as_slice()) {
+            Some(line) => {
+                *format = format_behind(line, *format);
+                Ok(Some(line))
+            }
+            None => Err(self.bad_piece(*format)),
+        }
+    }
+
+    /// What is told of a line or record that says nothing.
+    #[tactic(auto, unfolding(crate::specs::References::flaw_of))]
+    fn bad_piece(&self, format: TraceFormat) -> TraceFault<'a>
+        ensures breaks { BreaksBy result (Breaks (flaw_of format self.now.count
+            self.now.last.items)) }
+        ensures named { Names self.now.name.now result }
+    {
+        match compression_at(self.count, self.last.as_slice()) {
+            Some(compression) => TraceFault::Compressed(self.name, compression),
+            None => self.bad_plain(format),
+        }
+    }
+
+    /// The same of a file that is not compressed.
+    fn bad_plain(&self, format: TraceFormat) -> TraceFault<'a>
+        ensures breaks { BreaksBy result (Breaks (piece_flaw format self.now.count
+            self.now.last.items)) }
+        ensures named { Names self.now.name.now result }
+    {
+        match format {
+            TraceFormat::OracleGeneral => self.bad_record(),
+            TraceFormat::Csv => TraceFault::NoColumn(self.name),
+            _ => self.bad_line(),
+        }
+    }
+
+    /// Its number, and how many bytes it has.
+    #[tactic(auto, unfolding(crate::specs::References::record_flaw))]
+    fn bad_record(&self) -> TraceFault<'a>
+        ensures breaks { BreaksBy result (Breaks (record_flaw self.now.count
+            self.now.last.items)) }
+        ensures named { Names self.now.name.now result }
+    {
+        if shows_text(self.count, self.last.as_slice()) {
+            return TraceFault::Text(self.name);
+        }
+        TraceFault::Record(self.count, self.last.len())
+    }
+
+    /// Its number, and its first characters.
+    fn bad_line(&self) -> TraceFault<'a>
+        ensures breaks { BreaksBy result (Breaks (BadLine self.now.count)) }
+        ensures named { Names self.now.name.now result }
+    {
+        match shown(self.alloc, self.last.as_slice()) {
+            Ok(text) => TraceFault::Line(self.count, text),
+            Err(_) => TraceFault::NoMemory,
+        }
+    }
+}
+
+/// The first characters of a line; what can't be shown is a question mark.
+fn shown(alloc: Global, line: &[u8]) -> Result<String, AllocError> {
+    let mut text = String::new(alloc);
+    for byte in line.iter().take(SHOWN) {
+        let is_plain = (32..127).contains(byte);
+        text.push(if is_plain { char::from(*byte) } else { '?' })?;
+    }
+    Ok(text)
+}

@@ -18,7 +18,7 @@ use Rattle.paged_memory.specs.Seen as seen
 use Rattle.paged_memory.specs.Seen.{Seen, entry_seen, entry_standing, rights_seen, takes_stores, is_used}
 use Rattle.paged_memory.specs.Soundness.{IsMapped}
 use Rattle.paged_memory.specs.Calls.{accessed_at, accessed_standing, IsResident}
-use Rattle.paged_memory.specs.Paged.{standing_of, seen_of, page_at, seen_at, Holds}
+use Rattle.paged_memory.specs.Paged.{standing_of, seen_of, page_at, seen_at, Holds, IsConstant}
 use Rattle.paged_memory.proofs.PagedLaws.{Change, choice_here, changes_no_page, Holds-doomed}
 
 -- the entry of the page that changed
@@ -49,6 +49,7 @@ module _ {S : Type 0} where
         tabled = λ q p small none. cc;
         placed = All-nil _;
         backed = λ is_honest q p small none. cc;
+        constant = λ q p small none. cc;
       }
 
   -- a page of whose A something is seen is resident
@@ -128,6 +129,7 @@ module _ {S : Type 0} where
               tabled = λ framed. same number small ∙ holds.tabled number page small resident.found framed;
               mapped = mapped_resident resident.origin resident.frame resident.slot false e.dirty cleared readable_resident;
               backed = λ is_honest. subst (λ d. Backed held d page) (sym dirty_same) (holds.backed is_honest number page small resident.found);
+              constant = subst (λ d. IsConstant d page) (sym dirty_same) (holds.constant number page small resident.found);
             }
 
         still : takes_stores (seen_at pages number) e ≡ true → takes_stores (seen_at pages number) (entry_at tables' number) ≡ true

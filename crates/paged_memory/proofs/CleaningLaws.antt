@@ -22,7 +22,7 @@ use Rattle.tlb_core.specs.Cache.{doomed}
 use Rattle.paged_memory.specs.Calls.{IsResident, ChangesBy}
 use Rattle.paged_memory.specs.Cleaning.{settles, StartsClean, RefusesClean, Copies, CopiesAt, IsCopyAt, IsCopyOf, EndsCleaningOf, is_changed_resident}
 use Rattle.paged_memory.specs.Counting.{page_passes, is_resident_place}
-use Rattle.paged_memory.specs.Paged.{standing_of, seen_of, page_at, seen_at, flat_page, flat_pages, Holds, ChangesPage}
+use Rattle.paged_memory.specs.Paged.{standing_of, seen_of, page_at, seen_at, flat_page, flat_pages, Holds, HoldsOrigin, IsConstant, IsUntouched, ChangesPage}
 use Rattle.paged_memory.specs.Seen.{Seen, Standing, entry_seen, entry_standing, frame_seen, frame_standing, rights_seen, is_dirty, dirty_standing, is_loose_standing, takes_stores, is_used, used_standing}
 use Rattle.paged_memory.specs.Seen as seen
 use Rattle.paged_memory.specs.Soundness.{is_marked}
@@ -69,7 +69,7 @@ module _ {S : Type 0} where
   keeping_alike now (Away copy) = record { frame = refl; dirty = λ e. refl; used = λ e. refl; entry = λ r a d. refl; framed = refl; shown = λ h o. refl }
   keeping_alike now Purged = record { frame = refl; dirty = λ e. refl; used = λ e. refl; entry = λ r a d. refl; framed = refl; shown = λ h o. refl }
 
-  module _ {held : S → List ℕ} {honest : Type 0} {pages pages' : List (ℕ × PageValue S)} {tables : List (List ℕ)} {caches : List (List Translation)} (number : ℕ) (small : number < 2 ^ 20) (holds : Holds held honest pages tables caches) (page : PageValue S) (place' : Place S) (alike : Alike page.place place') (found : page_at pages number ≡ Some page) (changes : ChangesPage pages pages' number (record page { place = place' })) (backed : honest → Backed held (entry_at tables number).dirty (record page { place = place' })) where
+  module _ {held : S → List ℕ} {honest : Type 0} {pages pages' : List (ℕ × PageValue S)} {tables : List (List ℕ)} {caches : List (List Translation)} (number : ℕ) (small : number < 2 ^ 20) (holds : Holds held honest pages tables caches) (page : PageValue S) (place' : Place S) (alike : Alike page.place place') (found : page_at pages number ≡ Some page) (changes : ChangesPage pages pages' number (record page { place = place' })) (backed : honest → Backed held (entry_at tables number).dirty (record page { place = place' })) (constant : IsConstant (entry_at tables number).dirty (record page { place = place' })) where
     abbrev e : Entry
     e = entry_at tables number
 
@@ -95,6 +95,7 @@ module _ {S : Type 0} where
             readable = λ rights same. (holds.agree.mapped number small).readable rights (ap rights_seen seen_then ∙ same);
           };
           backed = backed;
+          constant = constant;
         }
 
     used_on : is_used (seen_at pages number) e ≡ true → is_used (seen_at pages' number) e ≡ true
@@ -129,18 +130,19 @@ module _ {S : Type 0} where
 
   -- ---- a cleaning begins
 
-  record Begun (page page' : PageValue S) : Type 0 where
+  record Begun (dirty : Bool) (page page' : PageValue S) : Type 0 where
     pub frame : FrameValue
     pub slot : Keeping S
     pub own : Option S
     pub was : page ≡ record { origin = page.origin; place = Resident frame slot }
     pub is : page' ≡ record { origin = page.origin; place = Resident frame (Cleaning own) }
+    pub touched : (origin : List ℕ) → HoldsOrigin dirty origin frame slot → ⊥
 
-  begun_page : (ended dirty : Bool) (page page' : PageValue S) → StartsClean ended dirty page page' → Begun page page'
+  begun_page : (ended dirty : Bool) (page page' : PageValue S) → StartsClean ended dirty page page' → Begun dirty page page'
   begun_page ended dirty page page' starts = by_place page.place refl starts.place
     where
-      told : (frame : FrameValue) (slot : Keeping S) (own : Option S) → page.place ≡ Resident frame slot → ◌≡◌ {A = Result (Place S) CleanRefusal} (Ok (Resident frame (Cleaning own))) (Ok page'.place) → Begun page page'
-      told frame slot own at is =
+      told : (frame : FrameValue) (slot : Keeping S) (own : Option S) (d : Bool) → page.place ≡ Resident frame slot → ◌≡◌ {A = Result (Place S) CleanRefusal} (Ok (Resident frame (Cleaning own))) (Ok page'.place) → ((origin : List ℕ) → HoldsOrigin d origin frame slot → ⊥) → Begun d page page'
+      told frame slot own d at is touched =
           let place : Resident frame (Cleaning own) ≡ page'.place = cc in
           record {
             frame = frame;
@@ -148,19 +150,20 @@ module _ {S : Type 0} where
             own = own;
             was = ap (λ p. record page { place = p }) at;
             is = ap (λ o. record { origin = o; place = page'.place }) starts.origin ∙ ap (λ p. record { origin = page.origin; place = p }) (sym place);
+            touched = touched;
           }
 
-      begun_slot : (frame : FrameValue) (slot : Keeping S) (over d : Bool) → page.place ≡ Resident frame slot → resident_with frame (begun_keeping over d slot) ≡ Ok page'.place → Begun page page'
-      begun_slot frame NoSlot over true at is = told frame NoSlot None at is
+      begun_slot : (frame : FrameValue) (slot : Keeping S) (over d : Bool) → page.place ≡ Resident frame slot → resident_with frame (begun_keeping over d slot) ≡ Ok page'.place → Begun d page page'
+      begun_slot frame NoSlot over true at is = told frame NoSlot None true at is (λ origin h. true≢false h.0)
       begun_slot frame NoSlot over false at is = cc
-      begun_slot frame (Saved copy) over true at is = told frame (Saved copy) (Some copy.slot) at is
+      begun_slot frame (Saved copy) over true at is = told frame (Saved copy) (Some copy.slot) true at is (λ origin h. h)
       begun_slot frame (Saved copy) over false at is = cc
-      begun_slot frame (Unbacked own) over d at is = told frame (Unbacked own) own at is
-      begun_slot frame (Cleaning own) true d at is = told frame (Cleaning own) own at is
+      begun_slot frame (Unbacked own) over d at is = told frame (Unbacked own) own d at is (λ origin h. h)
+      begun_slot frame (Cleaning own) true d at is = told frame (Cleaning own) own d at is (λ origin h. h)
       begun_slot frame (Cleaning own) false d at is = cc
       begun_slot frame CopyOut over d at is = cc
 
-      by_place : (place : Place S) → page.place ≡ place → begun ended dirty place ≡ Ok page'.place → Begun page page'
+      by_place : (place : Place S) → page.place ≡ place → begun ended dirty place ≡ Ok page'.place → Begun dirty page page'
       by_place Fresh at is = cc
       by_place (Resident frame slot) at is = begun_slot frame slot ended dirty at is
       by_place (Leaving frame slot mark) at is = cc
@@ -168,12 +171,15 @@ module _ {S : Type 0} where
       by_place (Away copy) at is = cc
       by_place Purged at is = cc
 
-  module _ {held : S → List ℕ} {honest : Type 0} {pages pages' : List (ℕ × PageValue S)} {tables : List (List ℕ)} {caches : List (List Translation)} (tables' : List (List ℕ)) (number : ℕ) (small : number < 2 ^ 20) (holds : Holds held honest pages tables caches) (ended dirty : Bool) (told : ChangesBy (StartsClean ended dirty) pages pages' number) (entries : ChangesEntry tables tables' number (undirtied_entry (entry_at tables number))) (same : SameTables tables tables') where
-    abbrev starts : Begun told.page told.page'
+  module _ {held : S → List ℕ} {honest : Type 0} {pages pages' : List (ℕ × PageValue S)} {tables : List (List ℕ)} {caches : List (List Translation)} (tables' : List (List ℕ)) (number : ℕ) (small : number < 2 ^ 20) (holds : Holds held honest pages tables caches) (ended dirty : Bool) (bit : dirty ≡ dirty_of (entry_at tables number)) (told : ChangesBy (StartsClean ended dirty) pages pages' number) (entries : ChangesEntry tables tables' number (undirtied_entry (entry_at tables number))) (same : SameTables tables tables') where
+    abbrev starts : Begun dirty told.page told.page'
     starts = begun_page ended dirty told.page told.page' told.how
 
     abbrev begun_resident : IsResident pages number
     begun_resident = record { origin = told.page.origin; frame = starts.frame; slot = starts.slot; found = told.found ∙ ap Some starts.was }
+
+    bit_then : dirty ≡ (entry_at tables number).dirty
+    bit_then = bit ∙ dirty_by_seen (seen_at pages number) (entry_at tables number) (holds.agree.mapped number small).entry
 
     abbrev page_clean : PageValue S
     page_clean = record { origin = told.page.origin; place = Resident starts.frame (Cleaning starts.own) }
@@ -197,6 +203,7 @@ module _ {S : Type 0} where
           tabled = λ framed. same number small ∙ holds.tabled number _ small begun_resident.found refl;
           mapped = mapped_resident told.page.origin starts.frame (Cleaning starts.own) e_then.accessed false cleared (readable_resident number small holds begun_resident);
           backed = λ is_honest unchanged. absurd (true≢false (sym (always (undirtied_entry e_then).dirty) ∙ unchanged));
+          constant = λ fixed. absurd (starts.touched told.page.origin.bytes (subst (λ d. HoldsOrigin d told.page.origin.bytes starts.frame starts.slot) (sym bit_then) (holds.constant number _ small begun_resident.found fixed)));
         }
 
     seen_clean : seen_at pages' number ≡ Some (seen_of page_clean)
@@ -238,21 +245,22 @@ module _ {S : Type 0} where
     pub is : place' ≡ Resident frame now
     pub unbacked : is_unbacked now ≡ true
     pub reach : (is_loose now ≡ true) ⊎ (marked ≡ false)
+    pub touched : (d : Bool) (origin : List ℕ) → HoldsOrigin d origin frame slot → ⊥
 
   abbrev Recopies : Bool → Place S → Place S → Type 0
   Recopies marked place place' = (place' ≡ place) ⊎ Recopied marked place place'
 
   module _ (process vpn : ℕ) where
     by_spare : (frame : FrameValue) (own spare : Option S) → Recopies false (Resident frame (Cleaning own)) (copy_for_spare process vpn frame spare).0
-    by_spare frame own None = inr (record { now = Unbacked None; frame = frame; slot = Cleaning own; was = refl; is = refl; unbacked = refl; reach = inl refl })
-    by_spare frame own (Some slot) = inr (record { now = CopyOut; frame = frame; slot = Cleaning own; was = refl; is = refl; unbacked = refl; reach = inr refl })
+    by_spare frame own None = inr (record { now = Unbacked None; frame = frame; slot = Cleaning own; was = refl; is = refl; unbacked = refl; reach = inl refl; touched = λ d origin h. h })
+    by_spare frame own (Some slot) = inr (record { now = CopyOut; frame = frame; slot = Cleaning own; was = refl; is = refl; unbacked = refl; reach = inr refl; touched = λ d origin h. h })
 
     by_own : (frame : FrameValue) (own spare : Option S) → Recopies false (Resident frame (Cleaning own)) (copy_unmarked process vpn frame own spare).0
     by_own frame None spare = by_spare frame None spare
-    by_own frame (Some slot) spare = inr (record { now = CopyOut; frame = frame; slot = Cleaning (Some slot); was = refl; is = refl; unbacked = refl; reach = inr refl })
+    by_own frame (Some slot) spare = inr (record { now = CopyOut; frame = frame; slot = Cleaning (Some slot); was = refl; is = refl; unbacked = refl; reach = inr refl; touched = λ d origin h. h })
 
     by_marks : (frame : FrameValue) (own : Option S) (dirty marked : Bool) (spare : Option S) → Recopies marked (Resident frame (Cleaning own)) (copy_cleaning process vpn frame own dirty marked spare).0
-    by_marks frame own true marked spare = inr (record { now = Unbacked own; frame = frame; slot = Cleaning own; was = refl; is = refl; unbacked = refl; reach = inl refl })
+    by_marks frame own true marked spare = inr (record { now = Unbacked own; frame = frame; slot = Cleaning own; was = refl; is = refl; unbacked = refl; reach = inl refl; touched = λ d origin h. h })
     by_marks frame own false true spare = inl refl
     by_marks frame own false false spare = by_own frame own spare
 
@@ -329,14 +337,17 @@ module _ {S : Type 0} where
         backed_copied is_honest unchanged =
             absurd (true≢false (sym (always (entry_at tables number).dirty) ∙ sym (ap (λ b. (entry_at tables number).dirty || b) gone.unbacked) ∙ sym (ap (changed (entry_at tables number).dirty) gone.is) ∙ unchanged))
 
+        constant_copied : IsConstant (entry_at tables number).dirty (record told.page { place = told.page'.place })
+        constant_copied fixed = absurd (gone.touched _ told.page.origin.bytes (subst (IsUntouched _ told.page.origin.bytes) gone.was (holds.constant number told.page small told.found fixed)))
+
         holds_gone : (is_loose gone.now ≡ true) ⊎ (is_marked number caches ≡ false) → Holds held honest pages' tables caches
         holds_gone (inl loose) =
-            holds_looser number small holds told.page told.page'.place alike_copied told.found changes_copied backed_copied
+            holds_looser number small holds told.page told.page'.place alike_copied told.found changes_copied backed_copied constant_copied
             (λ _. ap (λ p. is_loose_standing (standing_of p)) gone.is ∙ loose)
-        holds_gone (inr none) = holds_unmarked number small holds told.page told.page'.place alike_copied told.found changes_copied backed_copied none
+        holds_gone (inr none) = holds_unmarked number small holds told.page told.page'.place alike_copied told.found changes_copied backed_copied constant_copied none
 
         memory_gone : flat_pages held pages' ≡ flat_pages held pages
-        memory_gone = memory_kept number small holds told.page told.page'.place alike_copied told.found changes_copied backed_copied
+        memory_gone = memory_kept number small holds told.page told.page'.place alike_copied told.found changes_copied backed_copied constant_copied
 
       holds_told : Holds held honest pages' tables caches
       holds_told =
@@ -396,17 +407,35 @@ module _ {S : Type 0} where
   out_tight dirty (Away copy) P h = absurd h
   out_tight dirty Purged P h = absurd h
 
+  -- nor is it what it began with, with no slot
+  out_touched : (dirty d : Bool) (origin : List ℕ) (place : Place S) (P : FrameValue → Bool → Type 0) → IfCopyOut dirty place P → IsUntouched d origin place → ⊥
+  out_touched dirty d origin Fresh P h is = h
+  out_touched dirty d origin (Resident frame NoSlot) P h is = h
+  out_touched dirty d origin (Resident frame (Saved copy)) P h is = h
+  out_touched dirty d origin (Resident frame (Unbacked own)) P h is = h
+  out_touched dirty d origin (Resident frame (Cleaning own)) P h is = h
+  out_touched dirty d origin (Resident frame CopyOut) P h is = is
+  out_touched dirty d origin (Leaving frame NoSlot mark) P h is = h
+  out_touched dirty d origin (Leaving frame (Saved copy) mark) P h is = h
+  out_touched dirty d origin (Leaving frame (Unbacked own) mark) P h is = h
+  out_touched dirty d origin (Leaving frame (Cleaning own) mark) P h is = h
+  out_touched dirty d origin (Leaving frame CopyOut mark) P h is = is
+  out_touched dirty d origin (Saving frame mark) P h is = h
+  out_touched dirty d origin (Away copy) P h is = h
+  out_touched dirty d origin Purged P h is = h
+
   -- the page keeps something else, and stores could not reach it
   record Rekept (place place' : Place S) : Type 0 where
     pub now : Keeping S
     pub is : place' ≡ keeping now place
     pub tight : is_loose_standing (standing_of place) ≡ false
+    pub touched : (d : Bool) (origin : List ℕ) → IsUntouched d origin place → ⊥
 
   rekept : (job : SavedValue S) (dirty : Bool) (place place' : Place S) (answer : Cleaned S) → EndsCleaning job dirty place place' answer → (place' ≡ place) ⊎ Rekept place place'
   rekept job dirty place place' (end.WrongPage back) told = inl told.1
-  rekept job dirty place place' end.Stored told = inr (record { now = Unbacked (Some job.slot); is = told.1; tight = out_tight dirty place _ told.0 })
-  rekept job dirty place place' end.Device told = inr (record { now = Unbacked (Some job.slot); is = told.2; tight = out_tight dirty place _ told.0 })
-  rekept job dirty place place' end.Clean told = inr (record { now = Saved (copy_of job); is = told.2; tight = out_tight dirty place _ told.0 })
+  rekept job dirty place place' end.Stored told = inr (record { now = Unbacked (Some job.slot); is = told.1; tight = out_tight dirty place _ told.0; touched = λ d origin. out_touched dirty d origin place _ told.0 })
+  rekept job dirty place place' end.Device told = inr (record { now = Unbacked (Some job.slot); is = told.2; tight = out_tight dirty place _ told.0; touched = λ d origin. out_touched dirty d origin place _ told.0 })
+  rekept job dirty place place' end.Clean told = inr (record { now = Saved (copy_of job); is = told.2; tight = out_tight dirty place _ told.0; touched = λ d origin. out_touched dirty d origin place _ told.0 })
 
   module _ {held : S → List ℕ} {honest : Type 0} {pages pages' : List (ℕ × PageValue S)} {tables : List (List ℕ)} {caches : List (List Translation)} (number : ℕ) (small : number < 2 ^ 20) (holds : Holds held honest pages tables caches) (job : SavedValue S) (page page' : PageValue S) (answer : Cleaned S) (found : page_at pages number ≡ Some page) (changes : ChangesPage pages pages' number page') (origin : page'.origin ≡ page.origin) where
     dirty_is : dirty_of (entry_at tables number) ≡ (entry_at tables number).dirty
@@ -431,11 +460,14 @@ module _ {S : Type 0} where
         alike_ended : Alike page.place page'.place
         alike_ended = subst (Alike page.place) (sym kept.is) (keeping_alike kept.now page.place)
 
+        constant_ended : IsConstant (entry_at tables number).dirty (record page { place = page'.place })
+        constant_ended fixed = absurd (kept.touched _ page.origin.bytes (holds.constant number page small found fixed))
+
         holds_kept : Holds held honest pages' tables caches
-        holds_kept = holds_looser number small holds page page'.place alike_ended found changes_ended backed_ended (λ loose. absurd (true≢false (sym loose ∙ kept.tight)))
+        holds_kept = holds_looser number small holds page page'.place alike_ended found changes_ended backed_ended constant_ended (λ loose. absurd (true≢false (sym loose ∙ kept.tight)))
 
         memory_ended_kept : flat_pages held pages' ≡ flat_pages held pages
-        memory_ended_kept = memory_kept number small holds page page'.place alike_ended found changes_ended backed_ended
+        memory_ended_kept = memory_kept number small holds page page'.place alike_ended found changes_ended backed_ended constant_ended
 
       pub holds_ended : Holds held honest pages' tables caches
       holds_ended =

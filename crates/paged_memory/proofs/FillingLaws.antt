@@ -11,19 +11,20 @@ use Rattle.page_store.specs.Moves.{Filled, IfAbsent, IfResident, IfAway, IfSaved
 use Rattle.page_memory.specs.declared.words.Access.TheVariants.{Load, Store}
 use Rattle.page_memory.specs.Rights.{may}
 use Rattle.sv32_table.specs.Entry.{Entry, page_entry}
-use Rattle.sv32_table.specs.EntryAt.{ChangesEntry, AddsTable, has_table}
+use Rattle.sv32_table.specs.EntryAt.{entry_at, ChangesEntry, AddsTable, has_table}
 use Rattle.sv32_table.specs.EntryLaws.{dirty-page_entry}
 use Rattle.tlb_core.specs.declared.translation.Translation.{Translation}
 use Rattle.paged_memory.specs.Seen.{Elsewhere, entry_standing, rights_seen}
 use Rattle.paged_memory.specs.Soundness.{IsMapped}
 use Rattle.paged_memory.specs.Moving.{ComesIn}
-use Rattle.paged_memory.specs.Paged.{PagedValue, standing_of, seen_of, page_at, flat_page, flat_pages, memory_of, Holds}
+use Rattle.paged_memory.specs.Paged.{PagedValue, standing_of, seen_of, page_at, flat_page, flat_pages, memory_of, Holds, HoldsOrigin, IsConstant, IsUntouched, SameUnwritten}
 use Rattle.paged_memory.specs.Calls.{ChangesBy}
 use Rattle.paged_memory.specs.Filling.{BroughtIn, StaysAbsent, FailsToLoad, ComesDamaged, StaysUnmapped, RefusesAbsent, RefusesPageIn}
 use Rattle.paged_memory.specs.declared.filling.PageInFault.{PageInFault}
 use Rattle.paged_memory.specs.declared.filling.PageInFault.TheVariants.{NotAbsent, Device, Damaged, NoMemory}
 use Rattle.paged_memory.proofs.PagedLaws.{Change, changed_by, Holds-unheld, memory_stays}
 use Rattle.paged_memory.proofs.CallLaws.{mapped_resident}
+use Rattle.paged_memory.proofs.ConstancyLaws.{IsThere, unwritten_moved, unwritten_same}
 use Rattle.paged_memory.proofs.MovesLaws.{holds_moved, unheld_page}
 
 or_more : (b more : Bool) → more ≡ true → (b || more) ≡ true
@@ -45,6 +46,7 @@ module _ {S : Type 0} where
     pub was : standing_of page.place ≡ Elsewhere
     pub is : page'.place ≡ Resident filled slot
     pub number : filled.number ≡ frame.number
+    pub how : IfAbsent page.place ((filled.bytes ≡ page.origin.bytes) × (slot ≡ NoSlot)) (λ _. IfSaved slot (λ _. Unit {0}))
 
   absent_elsewhere : (place : Place S) (fresh : Type 0) (away : CopyValue S → Type 0) → IfAbsent place fresh away → standing_of place ≡ Elsewhere
   absent_elsewhere Fresh fresh away how = refl
@@ -54,12 +56,20 @@ module _ {S : Type 0} where
   absent_elsewhere (Away slot) fresh away how = refl
   absent_elsewhere Purged fresh away how = refl
 
+  absent_there : (place : Place S) (fresh : Type 0) (away : CopyValue S → Type 0) → IfAbsent place fresh away → IsThere place
+  absent_there Fresh fresh away how = tt
+  absent_there (Resident frame slot) fresh away how = absurd how
+  absent_there (Leaving frame slot mark) fresh away how = absurd how
+  absent_there (Saving frame mark) fresh away how = tt
+  absent_there (Away slot) fresh away how = tt
+  absent_there Purged fresh away how = absurd how
+
   is_filled : (frame : FrameValue) (page page' : PageValue S) → Filled frame page page' → IsFilled frame page page'
   is_filled frame page page' how = by_place page'.place refl how
     where
       by_place : (new : Place S) → page'.place ≡ new → IfResident new (λ filled slot. (filled.number ≡ frame.number) × IfAbsent page.place ((filled.bytes ≡ page.origin.bytes) × (slot ≡ NoSlot)) (λ _. IfSaved slot (λ _. Unit {0}))) → IsFilled frame page page'
       by_place Fresh at how = absurd how
-      by_place (Resident filled slot) at how = record { filled = filled; slot = slot; was = absent_elsewhere page.place _ _ how.1; is = at; number = how.0 }
+      by_place (Resident filled slot) at how = record { filled = filled; slot = slot; was = absent_elsewhere page.place _ _ how.1; is = at; number = how.0; how = how.1 }
       by_place (Leaving filled slot mark) at how = absurd how
       by_place (Saving filled mark) at how = absurd how
       by_place (Away slot) at how = absurd how
@@ -93,19 +103,20 @@ module _ {S : Type 0} (held : S → List ℕ) (honest : Type 0) where
     pub stands : standing_of page.place ≡ Elsewhere
     pub unframed : is_some (frame_of page.place) ≡ false
     pub backed : Backed held false page
+    pub there : IsThere page.place
 
   still_absent : (page page' : PageValue S) → IfAbsent page.place (page'.place ≡ Fresh) (λ _. IfAway page'.place (λ _. Unit {0})) → IsElsewhere page'
   still_absent page page' how = by_place page.place how
     where
       fresh : page'.place ≡ Fresh → IsElsewhere page'
-      fresh is = record { stands = ap standing_of is; unframed = ap (λ p. is_some (frame_of p)) is; backed = subst (λ p. BackedAt held page'.origin.bytes false p) (sym is) (λ _. refl) }
+      fresh is = record { stands = ap standing_of is; unframed = ap (λ p. is_some (frame_of p)) is; backed = subst (λ p. BackedAt held page'.origin.bytes false p) (sym is) (λ _. refl); there = subst IsThere (sym is) tt }
 
       away : (place : Place S) → page'.place ≡ place → IfAway place (λ _. Unit {0}) → IsElsewhere page'
       away Fresh is how = absurd how
       away (Resident frame slot) is how = absurd how
       away (Leaving frame slot mark) is how = absurd how
       away (Saving frame mark) is how = absurd how
-      away (Away slot) is how = record { stands = ap standing_of is; unframed = ap (λ p. is_some (frame_of p)) is; backed = subst (λ p. BackedAt held page'.origin.bytes false p) (sym is) (λ _. refl) }
+      away (Away slot) is how = record { stands = ap standing_of is; unframed = ap (λ p. is_some (frame_of p)) is; backed = subst (λ p. BackedAt held page'.origin.bytes false p) (sym is) (λ _. refl); there = subst IsThere (sym is) tt }
       away Purged is how = absurd how
 
       by_place : (place : Place S) → IfAbsent place (page'.place ≡ Fresh) (λ _. IfAway page'.place (λ _. Unit {0})) → IsElsewhere page'
@@ -140,6 +151,18 @@ module _ {S : Type 0} (held : S → List ℕ) (honest : Type 0) where
         mapped : IsMapped (Some (seen_of told.page')) entry
         mapped = subst (λ p. IsMapped (Some (seen_of p)) entry) (sym whole) (mapped_resident told.page.origin filled.filled filled.slot true false (ap (λ n. page_entry n told.page.origin.rights true false) (sym filled.number)) readable)
 
+        -- one that may not be written was in no slot
+        constant_filled : (place : Place S) → IsUntouched (entry_at tables number).dirty told.page.origin.bytes place → IfAbsent place ((filled.filled.bytes ≡ told.page.origin.bytes) × (filled.slot ≡ NoSlot)) (λ _. IfSaved filled.slot (λ _. Unit {0})) → IsUntouched false told.page.origin.bytes (Resident filled.filled filled.slot)
+        constant_filled Fresh untouched how = subst (HoldsOrigin false told.page.origin.bytes filled.filled) (sym how.1) (refl, how.0)
+        constant_filled (Resident frame slot) untouched how = absurd how
+        constant_filled (Leaving frame slot mark) untouched how = absurd how
+        constant_filled (Saving frame mark) untouched how = absurd how
+        constant_filled (Away copy) untouched how = absurd untouched
+        constant_filled Purged untouched how = absurd how
+
+        constant : IsConstant false told.page'
+        constant = subst (IsConstant false) (sym whole) (λ fixed. constant_filled told.page.place (holds.constant number told.page small told.found fixed) filled.how)
+
         change : Change held honest pages pages' tables tables' number told.page' entry
         change =
             record {
@@ -150,18 +173,35 @@ module _ {S : Type 0} (held : S → List ℕ) (honest : Type 0) where
               tabled = λ framed. adds number small ∙ or_more (has_table tables number) _ (eq-eqb (number / 1024) (number / 1024) refl);
               mapped = mapped;
               backed = λ is_honest. subst (λ d. Backed held d told.page') (sym (dirty-page_entry frame.number told.page.origin.rights true false)) (told.how.backed is_honest);
+              constant = subst (λ d. IsConstant d told.page') (sym (dirty-page_entry frame.number told.page.origin.rights true false)) constant;
             }
 
     pub holds_absent : ChangesBy (StaysAbsent held honest) pages pages' number → Holds held honest pages' tables caches
     holds_absent told =
         holds_moved number small holds pages' told.page told.page' told.found told.changes told.how.origin (λ rights accessed dirty. ap (λ s. entry_standing rights s accessed dirty) was) (λ rights accessed dirty. ap (λ s. entry_standing rights s accessed dirty) now.stands)
-        (λ framed. absurd (true≢false (sym framed ∙ now.unframed))) (λ _. now.backed) (unheld_page number small holds told.page told.found was)
+        (λ framed. absurd (true≢false (sym framed ∙ now.unframed))) (λ _. now.backed) constant (unheld_page number small holds told.page told.found was)
       where
         now : IsElsewhere told.page'
         now = still_absent told.page told.page' told.how.place
 
         was : standing_of told.page.place ≡ Elsewhere
         was = absent_elsewhere told.page.place _ _ told.how.place
+
+        stays_untouched : (place : Place S) → IsUntouched (entry_at tables number).dirty told.page.origin.bytes place → IfAbsent place (told.page'.place ≡ Fresh) (λ _. IfAway told.page'.place (λ _. Unit {0})) → IsUntouched false told.page'.origin.bytes told.page'.place
+        stays_untouched Fresh untouched how = subst (IsUntouched false told.page'.origin.bytes) (sym how) tt
+        stays_untouched (Resident frame slot) untouched how = absurd how
+        stays_untouched (Leaving frame slot mark) untouched how = absurd how
+        stays_untouched (Saving frame mark) untouched how = absurd how
+        stays_untouched (Away copy) untouched how = absurd untouched
+        stays_untouched Purged untouched how = absurd how
+
+        constant : IsConstant false told.page'
+        constant = λ fixed. stays_untouched told.page.place (holds.constant number told.page small told.found (ap (λ (o : Page). may Store o.rights) (sym told.how.origin) ∙ fixed)) told.how.place
+
+    pub unwritten_absent : ChangesBy (StaysAbsent held honest) pages pages' number → SameUnwritten (flat_pages held pages) (flat_pages held pages')
+    unwritten_absent told =
+        unwritten_moved held number small holds (holds_absent told) told.page told.page' told.found told.changes told.how.origin
+        (absent_there told.page.place _ _ told.how.place) ((still_absent told.page told.page' told.how.place).there)
 
   pub failed_stays : {failures : S → ℕ} {pages pages' : List (ℕ × PageValue S)} {number : ℕ} → ChangesBy (FailsToLoad held honest failures) pages pages' number → ChangesBy (StaysAbsent held honest) pages pages' number
   failed_stays told = record { page = told.page; page' = told.page'; found = told.found; changes = told.changes; how = told.how.stays }
@@ -188,6 +228,23 @@ module _ {S : Type 0} (held : S → List ℕ) (honest : Type 0) where
         by_fault Device how = rw unmapped (holds_absent number small holds (failed_stays how.0))
         by_fault Damaged how = rw unmapped (holds_absent number small holds (damaged_stays how.0))
         by_fault NoMemory how = rw unmapped (holds_absent number small holds (unmapped_stays how.1.0))
+
+    -- and what may not be written shows what it showed, whatever they are
+    pub unwritten_paged_in : (caches : List (List Translation)) (result : Result U (FrameValue × PageInFault)) → number < 2 ^ 20 → OnOk result (ChangesBy (BroughtIn held honest frame) pages pages' number)
+        → IfErr result (λ back. RefusesPageIn held honest failures frame pages pages' tables number back.0 back.1)
+        → OnOk result (IfSome (page_at pages number) (λ page. ChangesEntry tables tables' number (page_entry frame.number page.origin.rights true false))) → OnOk result (AddsTable tables tables' number)
+        → Holds held honest pages tables caches → SameUnwritten (flat_pages held pages) (flat_pages held pages')
+    unwritten_paged_in caches (Ok u) small ok refused entries adds holds =
+        let filled = is_filled frame ok.page ok.page' ok.how.filled in
+        unwritten_moved held number small holds (holds_brought number small holds tables' frame ok entries adds) ok.page ok.page' ok.found ok.changes ok.how.origin
+        (absent_there ok.page.place _ _ filled.how) (subst IsThere (sym filled.is) tt)
+    unwritten_paged_in caches (Err back) small ok refused entries adds holds = by_fault back.1 refused
+      where
+        by_fault : (fault : PageInFault) → RefusesPageIn held honest failures frame pages pages' tables number back.0 fault → SameUnwritten (flat_pages held pages) (flat_pages held pages')
+        by_fault NotAbsent how = unwritten_same held pages pages' (ap (flat_pages held) how.1.0)
+        by_fault Device how = unwritten_absent number small holds (failed_stays how.0)
+        by_fault Damaged how = unwritten_absent number small holds (damaged_stays how.0)
+        by_fault NoMemory how = unwritten_absent number small holds (unmapped_stays how.1.0)
 
     -- and the memory shows what it showed, where slots are honest
     pub memory_paged_in : (result : Result U (FrameValue × PageInFault)) → OnOk result (ChangesBy (BroughtIn held honest frame) pages pages' number)

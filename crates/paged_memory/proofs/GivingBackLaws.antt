@@ -58,6 +58,7 @@ module _ {S : Type 0} {held : S → List ℕ} {honest : Type 0} {pages : List (�
             tabled = λ framed. absurd (true≢false (sym framed));
             mapped = record { entry = refl; readable = λ rights is. (holds.agree.mapped number small).readable rights (ap rights_seen (ap (option_map seen_of) told.found) ∙ is) };
             backed = λ is_honest unchanged. refl;
+            constant = λ fixed. tt;
           }
 
 -- what holds of the page at each place, and of none, holds of the page of every number

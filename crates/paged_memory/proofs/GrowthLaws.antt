@@ -61,6 +61,7 @@ module _ {S : Type 0} where
               tabled = λ framed. cc;
               mapped = record { entry = e_blank; readable = λ rights is store. readable_zero rights is };
               backed = λ is_honest unchanged. refl;
+              constant = λ fixed. tt;
             } in
             Holds-unheld change caches holds (unheld_elsewhere caches number holds.agree (ap frame_seen seen_none))
 
@@ -175,6 +176,7 @@ holds_mapped {S} {held} {honest} {tables} {caches} pages number origin small at 
             readable = λ rights is may_store. let same : origin.rights ≡ rights = same_Some _ _ is in subst (λ r. may Load r ≡ true) same (readable (subst (λ r. may Store r ≡ true) (sym same) may_store));
           };
           backed = λ is_honest unchanged. refl;
+          constant = λ fixed. tt;
         }
 
 pub holds_inserted : {S P E : Type 0} {held : S → List ℕ} {honest : Type 0} {tables : List (List ℕ)} {caches : List (List Translation)} (result : Result P E) (old new : List (ℕ × PageValue S)) (number : ℕ) (origin : Page) (value : PageValue S) → number < 2 ^ 20 → place_of number old ≡ None → (may Store origin.rights ≡ true → may Load origin.rights ≡ true) → value ≡ record { origin = origin; place = Fresh } → IfOk result (λ _. new ≡ old ++ (number, value) ∷ []) → OnErr result (new ≡ old) → Holds held honest old tables caches → Holds held honest new tables caches

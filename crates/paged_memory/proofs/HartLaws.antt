@@ -19,6 +19,7 @@ module _ {S : Type 0} {held : S → List ℕ} {honest : Type 0} {pages : List (�
         tabled = holds.tabled;
         placed = keep (λ t. place_of t.page pages ≡ Some t.place) holds.placed;
         backed = holds.backed;
+        constant = holds.constant;
       }
 
   -- one more hart

@@ -16,7 +16,7 @@ use Rattle.paged_memory.specs.Seen.{frame_seen, rights_seen, takes_stores}
 use Rattle.paged_memory.specs.Calls.{IsResident, ChangesBy, Leaves}
 use Rattle.paged_memory.specs.Copies.{LeavesCopies, if_out}
 use Rattle.paged_memory.specs.CopiesMoveLaws.{other_bits, moved_copies}
-use Rattle.paged_memory.specs.Paged.{PagedValue, seen_of, page_at, seen_at, flat_page, flat_pages, Holds, ChangesPage}
+use Rattle.paged_memory.specs.Paged.{PagedValue, seen_of, page_at, seen_at, flat_page, flat_pages, Holds, HoldsOrigin, IsConstant, ChangesPage}
 use Rattle.paged_memory.specs.SeenLaws.{unbacked_settled, loose_settled, backing_settled}
 use Rattle.paged_memory.proofs.SoundnessLaws.{Stays}
 use Rattle.paged_memory.proofs.PagedLaws.{Change, choice_here, Holds-doomed, memory_stays}
@@ -87,6 +87,16 @@ module _ {S : Type 0} where
     backed_now was =
         rw dirty_is (λ unchanged. was (ap (λ b. old_entry.dirty || b) (sym (unbacked_settled resident.slot)) ∙ unchanged) ∙ sym (backing_settled held resident.origin.bytes resident.slot))
 
+    constant_now : IsConstant old_entry.dirty page → IsConstant false page_now
+    constant_now was = λ fixed. by_slot resident.slot (was fixed)
+      where
+        by_slot : (slot : Keeping S) → HoldsOrigin old_entry.dirty resident.origin.bytes resident.frame slot → HoldsOrigin (dirty_of old_entry) resident.origin.bytes resident.frame (settled slot)
+        by_slot NoSlot holds_origin = (dirty_is ∙ holds_origin.0, holds_origin.1)
+        by_slot (Saved copy) none = absurd none
+        by_slot (Unbacked own) none = absurd none
+        by_slot (Cleaning own) none = absurd none
+        by_slot CopyOut none = absurd none
+
     change : Change held honest pages pages' tables tables' number page_now blank
     change =
         record {
@@ -97,6 +107,7 @@ module _ {S : Type 0} where
           tabled = λ framed. same number small ∙ holds.tabled number page small resident.found refl;
           mapped = record { entry = refl; readable = λ rights same. (holds.agree.mapped number small).readable rights (ap rights_seen (seen_resident number small holds resident) ∙ same) };
           backed = λ is_honest. backed_now (holds.backed is_honest number page small resident.found);
+          constant = constant_now (holds.constant number page small resident.found);
         }
 
     stays : Stays (seen_at pages number) (seen_at pages' number) old_entry (entry_at tables' number)

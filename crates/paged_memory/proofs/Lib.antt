@@ -2,6 +2,7 @@ pub mod Mapping
 pub mod Holding
 pub mod SoundnessLaws
 pub mod PagedLaws
+pub mod ConstancyLaws
 pub mod CallLaws
 pub mod LeavingLaws
 pub mod HartLaws

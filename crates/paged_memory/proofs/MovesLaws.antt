@@ -9,7 +9,7 @@ use Rattle.sv32_table.specs.EntryAt.{entry_at}
 use Rattle.tlb_core.specs.declared.translation.Translation.{Translation}
 use Rattle.paged_memory.specs.Seen.{Standing, Elsewhere, entry_seen, entry_standing, frame_seen, rights_seen, takes_stores, is_used}
 use Rattle.paged_memory.specs.Soundness.{IsMapped}
-use Rattle.paged_memory.specs.Paged.{standing_of, seen_of, page_at, seen_at, Holds, ChangesPage}
+use Rattle.paged_memory.specs.Paged.{standing_of, seen_of, page_at, seen_at, Holds, IsConstant, ChangesPage}
 use Rattle.paged_memory.proofs.SoundnessLaws.{Unheld, unheld_elsewhere}
 use Rattle.paged_memory.proofs.PagedLaws.{Change, choice_here, changes_no_entry, Holds-unheld, Holds-held}
 
@@ -28,7 +28,7 @@ module _ {S : Type 0} {held : S → List ℕ} {honest : Type 0} {pages : List (�
   pub unheld_page : (page : PageValue S) → page_at pages number ≡ Some page → standing_of page.place ≡ Elsewhere → Unheld number caches
   unheld_page page found is = unheld_elsewhere caches number holds.agree (ap frame_seen (ap (option_map seen_of) found ∙ ap (λ s. Some (record { rights = page.origin.rights; standing = s })) is))
 
-  module _ (pages' : List (ℕ × PageValue S)) (page page' : PageValue S) (found : page_at pages number ≡ Some page) (changes : ChangesPage pages pages' number page') (origin : page'.origin ≡ page.origin) (blank_then : IsBlank (standing_of page.place)) (blank_now : IsBlank (standing_of page'.place)) (framed : is_some (frame_of page'.place) ≡ true → is_some (frame_of page.place) ≡ true) (backed : honest → Backed held false page') where
+  module _ (pages' : List (ℕ × PageValue S)) (page page' : PageValue S) (found : page_at pages number ≡ Some page) (changes : ChangesPage pages pages' number page') (origin : page'.origin ≡ page.origin) (blank_then : IsBlank (standing_of page.place)) (blank_now : IsBlank (standing_of page'.place)) (framed : is_some (frame_of page'.place) ≡ true → is_some (frame_of page.place) ≡ true) (backed : honest → Backed held false page') (constant : IsConstant false page') where
     none : entry_at tables number ≡ blank
     none = entry_blank page found blank_then
 
@@ -45,6 +45,7 @@ module _ {S : Type 0} {held : S → List ℕ} {honest : Type 0} {pages : List (�
             readable = λ rights is. (holds.agree.mapped number small).readable rights (ap rights_seen (ap (option_map seen_of) found) ∙ sym (ap (λ (o : Page). Some o.rights) origin) ∙ is);
           };
           backed = λ is_honest. subst (λ (e : Entry). Backed held e.dirty page') (sym none) (backed is_honest);
+          constant = subst (λ (e : Entry). IsConstant e.dirty page') (sym none) constant;
         }
 
     -- everything goes together still, if no cache holds the page
@@ -69,6 +70,7 @@ module _ {S : Type 0} {held : S → List ℕ} {honest : Type 0} {pages : List (�
             tabled = λ has. holds.tabled number page small found has;
             mapped = subst (λ s. IsMapped s (entry_at tables number)) (ap (option_map seen_of) found) (holds.agree.mapped number small);
             backed = λ is_honest. holds.backed is_honest number page small found;
+            constant = holds.constant number page small found;
           }
 
 -- the value that is at a place already

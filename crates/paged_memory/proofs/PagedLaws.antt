@@ -17,7 +17,7 @@ use Rattle.paged_memory.specs.Seen.{frame_seen, rights_seen, is_used}
 use Rattle.paged_memory.specs.Soundness.{IsMapped}
 use Rattle.paged_memory.proofs.SoundnessLaws.{ChangesAt, Unheld, Unmarked, Stays, changed_unheld, changed_held, changed_unmarked, changed_doomed}
 use Rattle.paged_memory.specs.Calls.{ChangesBy}
-use Rattle.paged_memory.specs.Paged.{seen_of, page_at, seen_at, flat_page, flat_pages, ArePlaced, Holds, ChangesPage}
+use Rattle.paged_memory.specs.Paged.{seen_of, page_at, seen_at, flat_page, flat_pages, ArePlaced, Holds, IsConstant, ChangesPage}
 
 pub swap_key : {A : Type 0} (q number : ℕ) (x y : A) → cond (eq_by_cmp nat_cmp q number) x y ≡ (if q == number then x else y)
 swap_key q number x y = ap (λ b. cond b x y) (equal_by_order q number ∙ turned number q)
@@ -89,6 +89,7 @@ pub record Change {S : Type 0} (held : S → List ℕ) (honest : Type 0) (pages 
   pub tabled : is_some (frame_of page.place) ≡ true → has_table tables' number ≡ true
   pub mapped : IsMapped (Some (seen_of page)) e
   pub backed : honest → Backed held e.dirty page
+  pub constant : IsConstant e.dirty page
 
 module _ {S : Type 0} {held : S → List ℕ} {honest : Type 0} {pages pages' : List (ℕ × PageValue S)} {tables tables' : List (List ℕ)} {number : ℕ} {page : PageValue S} {e : Entry} (change : Change held honest pages pages' tables tables' number page e) where
   here : seen_at pages' number ≡ Some (seen_of page)
@@ -122,6 +123,21 @@ module _ {S : Type 0} {held : S → List ℕ} {honest : Type 0} {pages pages' : 
             rw (change.entry q in_range ∙ choice_other q number e (entry_at tables q) other) (old is_honest q p in_range found)
       ] refl
 
+  constant_still : ((q : ℕ) (p : PageValue S) → q < 2 ^ 20 → page_at pages q ≡ Some p → IsConstant (entry_at tables q).dirty p) → (q : ℕ) (p : PageValue S) → q < 2 ^ 20 → page_at pages' q ≡ Some p → IsConstant (entry_at tables' q).dirty p
+  constant_still old q p in_range is =
+      elim (q == number) as (λ b. (q == number) ≡ b → IsConstant (entry_at tables' q).dirty p) [
+        | true ↦ λ at.
+            let same : q ≡ number = eqb-true q number at in
+            let found : page_at pages' number ≡ Some p = subst (λ q. page_at pages' q ≡ Some p) same is in
+            let known : page_at pages' number ≡ Some page = change.changes.pages number ∙ choice_here number (Some page) (page_at pages number) in
+            let equal : p ≡ page = cc in
+            subst (λ q. IsConstant (entry_at tables' q).dirty p) (sym same)
+            (rw (entry_here, equal) change.constant)
+        | false ↦ λ other.
+            let found : page_at pages q ≡ Some p = sym (change.changes.pages q ∙ choice_other q number (Some page) (page_at pages q) other) ∙ is in
+            rw (change.entry q in_range ∙ choice_other q number e (entry_at tables q) other) (old q p in_range found)
+      ] refl
+
   tabled_still : ((q : ℕ) (p : PageValue S) → q < 2 ^ 20 → page_at pages q ≡ Some p → is_some (frame_of p.place) ≡ true → has_table tables q ≡ true) → (q : ℕ) (p : PageValue S) → q < 2 ^ 20 → page_at pages' q ≡ Some p → is_some (frame_of p.place) ≡ true → has_table tables' q ≡ true
   tabled_still old q p in_range is framed =
       elim (q == number) as (λ b. (q == number) ≡ b → has_table tables' q ≡ true) [
@@ -146,6 +162,7 @@ module _ {S : Type 0} {held : S → List ℕ} {honest : Type 0} {pages pages' : 
         tabled = tabled_still holds.tabled;
         placed = placed_still caches holds.placed;
         backed = backed_still holds.backed;
+        constant = constant_still holds.constant;
       }
 
   -- a page changes and keeps its frame, and its translations stand
@@ -156,6 +173,7 @@ module _ {S : Type 0} {held : S → List ℕ} {honest : Type 0} {pages pages' : 
         tabled = tabled_still holds.tabled;
         placed = placed_still caches holds.placed;
         backed = backed_still holds.backed;
+        constant = constant_still holds.constant;
       }
 
   -- a page changes and keeps its frame, and none of its translations has the dirty mark
@@ -166,6 +184,7 @@ module _ {S : Type 0} {held : S → List ℕ} {honest : Type 0} {pages pages' : 
         tabled = tabled_still holds.tabled;
         placed = placed_still caches holds.placed;
         backed = backed_still holds.backed;
+        constant = constant_still holds.constant;
       }
 
   -- a page changes and keeps its frame, and its translations are doomed
@@ -177,4 +196,5 @@ module _ {S : Type 0} {held : S → List ℕ} {honest : Type 0} {pages pages' : 
         tabled = tabled_still holds.tabled;
         placed = All-map (λ cache. All (λ t. place_of t.page pages' ≡ Some t.place) cache) (doomed number) caches (All-weaker _ _ (λ cache placed. All-map (λ t. place_of t.page pages' ≡ Some t.place) (doomed_entry number) cache placed) caches (placed_still caches holds.placed));
         backed = backed_still holds.backed;
+        constant = constant_still holds.constant;
       }

@@ -12,12 +12,13 @@ use Rattle.page_store.specs.Moves.{IfAbsent, IfAway, RefusesRead}
 use Rattle.page_store.specs.Reading.{some_from}
 use Rattle.swap_slots.specs.Slot.{Rose}
 use Rattle.tlb_core.specs.declared.translation.Translation.{Translation}
-use Rattle.paged_memory.specs.Paged.{page_at, flat_page, flat_pages, memory_in, Holds}
+use Rattle.paged_memory.specs.Paged.{page_at, flat_page, flat_pages, memory_in, Holds, SameUnwritten}
 use Rattle.paged_memory.specs.Calls.{ChangesBy}
 use Rattle.paged_memory.specs.Filling.{StaysAbsent, FailsToLoad}
 use Rattle.paged_memory.specs.Peeking.{bytes_of, ShowsBytes, LeavesPlace, LeavesPage}
 use Rattle.paged_memory.proofs.PagedLaws.{changed_by, page_at-place}
-use Rattle.paged_memory.proofs.FillingLaws.{holds_absent, memory_absent}
+use Rattle.paged_memory.proofs.FillingLaws.{holds_absent, memory_absent, unwritten_absent}
+use Rattle.paged_memory.proofs.ConstancyLaws.{unwritten_same}
 
 -- a value that is put back at its place
 same_value : {T : Type 0} (entries : List (ℕ × T)) (place : ℕ) (value : T) → value_at place entries ≡ Some value → with_value entries place value ≡ entries
@@ -113,6 +114,10 @@ module _ {S : Type 0} (held : S → List ℕ) (honest : Type 0) where
 
   pub memory_peeked : (pages pages' : List (ℕ × PageValue S)) (number : ℕ) (was : Option (PageValue S)) → LeavesPage held honest pages pages' number was → honest → flat_pages held pages' ≡ flat_pages held pages
   memory_peeked pages pages' number was left is_honest = left_stays pages pages' number was left _ (λ same. ap (flat_pages held) same) (λ told. memory_absent held honest told is_honest)
+
+  pub unwritten_peeked : (pages pages' : List (ℕ × PageValue S)) (tables : List (List ℕ)) (caches : List (List Translation)) (number : ℕ) (was : Option (PageValue S)) → number < 2 ^ 20 → LeavesPage held honest pages pages' number was → Holds held honest pages tables caches → SameUnwritten (flat_pages held pages) (flat_pages held pages')
+  unwritten_peeked pages pages' tables caches number was small left holds =
+      left_stays pages pages' number was left _ (λ same. unwritten_same held pages pages' (ap (flat_pages held) same)) (λ told. unwritten_absent held honest number small holds told)
 
   -- ---- the bytes
 

@@ -16,7 +16,7 @@ use Rattle.tlb_core.specs.declared.translation.Translation.{Translation}
 use Rattle.paged_memory.specs.Seen.{frame_seen, rights_seen, takes_stores, is_used}
 use Rattle.paged_memory.specs.Leaving.{is_leaving, is_leaving_place, Returns, ReturnsAs}
 use Rattle.paged_memory.specs.Calls.{ChangesBy}
-use Rattle.paged_memory.specs.Paged.{seen_of, page_at, seen_at, flat_page, flat_pages, Holds, ChangesPage}
+use Rattle.paged_memory.specs.Paged.{seen_of, page_at, seen_at, flat_page, flat_pages, Holds, HoldsOrigin, IsConstant, ChangesPage}
 use Rattle.paged_memory.proofs.SoundnessLaws.{Stays}
 use Rattle.paged_memory.proofs.PagedLaws.{page_at-place, Change, choice_here, Holds-held, memory_stays}
 use Rattle.paged_memory.proofs.CallLaws.{entry_at_changed, mapped_resident}
@@ -85,6 +85,9 @@ module _ {S : Type 0} where
     backed_now : Backed held (entry_at tables number).dirty page → Backed held entry.dirty page_now
     backed_now was = rw dirty_is was
 
+    constant_now : IsConstant (entry_at tables number).dirty page → IsConstant entry.dirty page_now
+    constant_now was = λ fixed. subst (λ d. HoldsOrigin d told.page.origin.bytes back.frame back.slot) (sym dirty_is) (was fixed)
+
     unused : is_used (seen_at pages number) (entry_at tables number) ≡ false
     unused = ap (λ s. is_used s (entry_at tables number)) seen_then
 
@@ -99,6 +102,7 @@ module _ {S : Type 0} where
             tabled = λ framed. same number small ∙ has_table_back;
             mapped = mapped_resident told.page.origin back.frame back.slot false mark refl ((holds.agree.mapped number small).readable told.page.origin.rights (ap rights_seen seen_then));
             backed = λ is_honest. backed_now (holds.backed is_honest number page small found);
+            constant = constant_now (holds.constant number page small found);
           }
 
       stays : Stays (seen_at pages number) (seen_at pages' number) (entry_at tables number) (entry_at tables' number)

@@ -3,6 +3,8 @@ use Rattle.std.specs.Prelude.{◌≡◌, ℕ, ◌^◌, ◌<◌, Bool, true, fals
 use Rattle.std.proofs.Common.{sym, ap, ◌∙◌, subst, true≢false}
 use Rattle.frame_pool.specs.FrameValue.{FrameValue}
 use Rattle.page_memory.specs.Pages.{Page}
+use Rattle.page_memory.specs.Rights.{may}
+use Rattle.page_memory.specs.declared.words.Access.TheVariants.{Store}
 use Rattle.page_memory.specs.Entries.{place_of, value_at, with_value}
 use Rattle.page_store.specs.JobValue.{SavedValue}
 use Rattle.page_store.specs.Keeping.{Unbacked}
@@ -14,9 +16,10 @@ use Rattle.tlb_core.specs.declared.translation.Translation.{Translation}
 use Rattle.paged_memory.specs.Leaving.{IsSaving, IsOut, ChangesSaved, Frees, RefusesSaved}
 use Rattle.paged_memory.specs.Calls.{ChangesBy}
 use Rattle.paged_memory.specs.Moving.{OnlyPages, SavedAway}
-use Rattle.paged_memory.specs.Paged.{PagedValue, standing_of, flat_pages, Holds}
+use Rattle.paged_memory.specs.Paged.{PagedValue, standing_of, flat_pages, Holds, IsUntouched, SameUnwritten}
 use Rattle.paged_memory.proofs.PagedLaws.{page_at-place, page_at-nowhere, changes_at_place, changed_by, memory_stays}
 use Rattle.paged_memory.proofs.MovesLaws.{IsBlank, unheld_page, holds_moved, with_same}
+use Rattle.paged_memory.proofs.ConstancyLaws.{IsThere, unwritten_moved, unwritten_same}
 
 always : (b : Bool) → (b || true) ≡ true
 always true = refl
@@ -96,6 +99,7 @@ module _ {S : Type 0} where
         (subst (λ p. IsBlank (standing_of p)) (sym is) blank)
         (λ h. ap (λ p. is_some (frame_of p)) was)
         (λ is_honest. subst (BackedAt held told.page'.origin.bytes false) (sym is) backed)
+        (λ fixed. absurd (subst (IsUntouched _ told.page.origin.bytes) was (holds.constant number told.page small told.found (ap (λ (o : Page). may Store o.rights) (sym origin) ∙ fixed))))
         (unheld_page number small holds told.page told.found (ap standing_of was))
 
     pub holds_saved : (result : Result FrameValue (SaveRefusal S)) → IfOk result (λ frame. ChangesSaved process job (Frees job frame) pages pages') → IfErr result (RefusesSaved process job pages pages') → Holds held honest pages' tables caches
@@ -111,6 +115,26 @@ module _ {S : Type 0} where
         let told = err.1.1 in
         let out = was_saving told.page.place _ told.how.1 in
         moves job.vpn err.1.0 told out.frame out.mark (Leaving out.frame (Unbacked (Some job.slot)) out.mark) out.was out.told.2 told.how.0 (λ r a d. refl) (λ h. absurd (true≢false (sym (always out.mark) ∙ h)))
+
+  module _ {held : S → List ℕ} {honest : Type 0} {pages : List (ℕ × PageValue S)} {tables : List (List ℕ)} {caches : List (List Translation)} (pages' : List (ℕ × PageValue S)) (holds : Holds held honest pages tables caches) (process : ℕ) (job : SavedValue S) where
+    -- and what may not be written shows what it showed
+    stays : {by : PageValue S → PageValue S → Type 0} (number : ℕ) → number < 2 ^ 20 → Holds held honest pages' tables caches → (told : ChangesBy by pages pages' number) (frame : FrameValue) (mark : Bool) (place : Place S) → told.page.place ≡ Saving frame mark → told.page'.place ≡ place → told.page'.origin ≡ told.page.origin → IsThere place → SameUnwritten (flat_pages held pages) (flat_pages held pages')
+    stays number small holds' told frame mark place was is origin there =
+        unwritten_moved held number small holds holds' told.page told.page' told.found told.changes origin (subst IsThere (sym was) tt) (subst IsThere (sym is) there)
+
+    pub unwritten_saved : (result : Result FrameValue (SaveRefusal S)) → IfOk result (λ frame. ChangesSaved process job (Frees job frame) pages pages') → IfErr result (RefusesSaved process job pages pages') → SameUnwritten (flat_pages held pages) (flat_pages held pages')
+    unwritten_saved (Ok frame) ok err =
+        let told = ok.1.1 in
+        stays job.vpn ok.1.0 (holds_saved holds process job (Ok frame) ok err) told frame told.how.mark (Away (copy_of job)) told.how.was (ap (λ (p : PageValue S). p.place) told.how.is) (ap (λ (p : PageValue S). p.origin) told.how.is) tt
+    unwritten_saved (Err (WrongPage back)) ok err = unwritten_same held pages pages' (ap (flat_pages held) err.1.0)
+    unwritten_saved (Err Mismatch) ok err =
+        let told = err.1.1 in
+        let out = was_saving told.page.place _ told.how.1 in
+        stays job.vpn err.1.0 (holds_saved holds process job (Err Mismatch) ok err) told out.frame out.mark (Leaving out.frame (Unbacked (Some job.slot)) out.mark) out.was out.told.1 told.how.0 tt
+    unwritten_saved (Err Device) ok err =
+        let told = err.1.1 in
+        let out = was_saving told.page.place _ told.how.1 in
+        stays job.vpn err.1.0 (holds_saved holds process job (Err Device) ok err) told out.frame out.mark (Leaving out.frame (Unbacked (Some job.slot)) out.mark) out.was out.told.2 told.how.0 tt
 
 -- what is told of its parts is the relation of the whole memory
 pub saved_away : {S E : Type 0} (old new : PagedValue S) (job : SavedValue S) (result : Result FrameValue E) → OnlyPages old new

@@ -24,7 +24,7 @@ use Rattle.paged_memory.specs.Calls.{IsResident}
 use Rattle.paged_memory.specs.Access.{cache_of, is_resident, HasPage, Reaches, Locates, KeepsTranslations}
 use Rattle.paged_memory.specs.OwnCache.{MayFill}
 use Rattle.paged_memory.specs.OwnCacheLaws.{goes_filled}
-use Rattle.paged_memory.specs.Paged.{page_at, seen_at, Holds}
+use Rattle.paged_memory.specs.Paged.{page_at, seen_at, Holds, IsConstant}
 use Rattle.paged_memory.proofs.PagedLaws.{Change, choice_other, changes_no_page, Holds-held}
 use Rattle.paged_memory.proofs.CallLaws.{entry_at_changed, entry_resident, seen_resident, readable_resident, mapped_resident}
 
@@ -32,6 +32,12 @@ use Rattle.paged_memory.proofs.CallLaws.{entry_at_changed, entry_resident, seen_
 backed_raised : {S : Type 0} (held : S → List ℕ) (origin : Page) (frame : FrameValue) (slot : Keeping S) (more dirty : Bool) → Backed held dirty (record { origin = origin; place = Resident frame slot }) → Backed held (more || dirty) (record { origin = origin; place = Resident frame slot })
 backed_raised held origin frame slot true dirty was = λ unchanged. cc
 backed_raised held origin frame slot false dirty was = was
+
+-- a walk for a store is only of a page that may be written
+constant_walked : {S : Type 0} (access : Access) (dirty : Bool) (page : PageValue S) → may access page.origin.rights ≡ true → IsConstant dirty page → IsConstant (is_store access || dirty) page
+constant_walked Store dirty page allowed was = λ fixed. absurd (true≢false (sym allowed ∙ fixed))
+constant_walked Load dirty page allowed was = was
+constant_walked Fetch dirty page allowed was = was
 
 other_test : (q number : ℕ) → q ≢ number → (q == number) ≡ false
 other_test q number other = by_test (q == number) refl
@@ -57,6 +63,7 @@ module _ {S : Type 0} {held : S → List ℕ} {honest : Type 0} {pages : List (�
         tabled = holds.tabled;
         placed = put (λ u. place_of u.page pages ≡ Some u.place) placed holds.placed;
         backed = holds.backed;
+        constant = holds.constant;
       }
     where
       put : (P : Translation → Type 0) → P t → All (λ cache. All P cache) caches → All (λ cache. All P cache) (slice_set caches hart (filled t (slice_index_or caches hart [])))
@@ -100,6 +107,7 @@ module _ {S : Type 0} {held : S → List ℕ} {honest : Type 0} {pages : List (�
           tabled = λ framed. same number small ∙ holds.tabled number page small resident.found framed;
           mapped = mapped_resident resident.origin resident.frame resident.slot true now_dirty walked (readable_resident number small holds resident);
           backed = λ is_honest. subst (λ d. Backed held d page) (sym walked_dirty) (backed_raised held resident.origin resident.frame resident.slot (is_store access) old_entry.dirty (holds.backed is_honest number page small resident.found));
+          constant = subst (λ d. IsConstant d page) (sym walked_dirty) (constant_walked access old_entry.dirty page allowed (holds.constant number page small resident.found));
         }
 
     pub changed_on : is_dirty (seen_at pages number) old_entry ≡ true → is_dirty (seen_at pages number) (entry_at tables' number) ≡ true

@@ -1,6 +1,6 @@
 -- A hart writes to a page that its access reaches.
 use Rattle.std.specs.Prelude.{◌≡◌, ◌≢◌, ℕ, ◌^◌, ◌<◌, ◌%◌, ◌==◌, Bool, true, false, cond, Some, option_map, Result, Ok, Err, is_some, List, [], refl}
-use Rattle.std.proofs.Common.{sym, ap, ◌∙◌, subst, eqb-true, eq-eqb, ne_eqb}
+use Rattle.std.proofs.Common.{sym, ap, ◌∙◌, subst, eqb-true, eq-eqb, ne_eqb, true≢false}
 use Rattle.byteorder.specs.Endian.{little_bytes}
 use Rattle.page_memory.specs.Pages.{Page, overwritten, answer_by, usable, aligned_page, if_aligned, memory_with, number_at, Pages, exchanged, replaced, stored, copied_in}
 use Rattle.page_memory.specs.declared.fault.MemoryFault.{MemoryFault}
@@ -121,6 +121,7 @@ module _ {S : Type 0} where
           tabled = λ framed. holds.tabled number reached.page small found (sym (framed_rewritten reached.page.place bytes) ∙ framed);
           mapped = subst (λ s. IsMapped s (entry_at tables number)) (ap (option_map seen_of) found ∙ sym (ap Some seen_same)) (holds.agree.mapped number small);
           backed = λ is_honest. backed_rewritten held reached.page (entry_at tables number) bytes reached.framed (reached.changed refl);
+          constant = λ fixed. absurd (true≢false (sym reached.allowed ∙ fixed));
         }
 
     pub holds_written : Holds held honest pages_now tables caches

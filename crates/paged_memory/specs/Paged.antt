@@ -1,16 +1,24 @@
 -- The pages, page tables and translation caches of one process, and the memory that they stand for.
-use Rattle.std.specs.Prelude.{◌≡◌, ℕ, ◌^◌, ◌<◌, ◌==◌, true, if◌then◌else◌, Option, Some, option_map, option_and_then, is_some, List, All}
+use Rattle.std.specs.Prelude.{◌≡◌, ℕ, ◌^◌, ◌<◌, ◌==◌, Bool, true, false, if◌then◌else◌, Option, Some, option_map, option_and_then, is_some, List, All}
+use Rattle.std.specs.FinMap.{get}
+use Rattle.frame_pool.specs.FrameValue.{FrameValue}
+use Rattle.page_memory.specs.declared.words.Access.TheVariants.{Store}
 use Rattle.page_memory.specs.Pages.{Page, Pages}
+use Rattle.page_memory.specs.Rights.{may}
 use Rattle.page_memory.specs.Reservations.{Reservations}
 use Rattle.page_memory.specs.Memory.{Memory}
 use Rattle.page_memory.specs.Entries.{place_of, value_at, map_by, ChangesPage as Changes}
-use Rattle.page_store.specs.Keeping.{is_loose}
+use Rattle.page_store.specs.Keeping.{Keeping, NoSlot, Saved, Unbacked, Cleaning, CopyOut, is_loose}
 use Rattle.page_store.specs.PageValue.{PageValue, Place, Fresh, Resident, Leaving, Saving, Away, Purged, content, frame_of, Backed}
 use Rattle.sv32_table.specs.EntryAt.{entry_at, has_table}
 use Rattle.tlb_core.specs.declared.translation.Translation.{Translation}
 use Rattle.paged_memory.specs.Seen.{Standing, Seen}
 use Rattle.paged_memory.specs.Seen as seen
 use Rattle.paged_memory.specs.Soundness.{Agree}
+
+-- the pages of one memory that may not be written are in another, as they are
+abbrev pub SameUnwritten : Pages → Pages → Type 0
+SameUnwritten old new = (number : ℕ) (page : Page) → get old number ≡ Some page → may Store page.rights ≡ false → get new number ≡ Some page
 
 -- the number of the process; the pages by their places, each with its number; the tables; the cache of each hart; and the words
 -- that harts have reserved
@@ -45,13 +53,35 @@ module _ {S : Type 0} where
   abbrev pub ArePlaced : List (ℕ × PageValue S) → List (List Translation) → Type 0
   ArePlaced pages caches = All (λ cache. All (λ t. place_of t.page pages ≡ Some t.place) cache) caches
 
-  -- pages, tables and caches go together; a page with a frame has a table; and where slots are honest, a page that does not count as changed equals its
-  -- backing
+  -- a frame holds these bytes, with no slot, and the bit does not tell of a store
+  abbrev pub HoldsOrigin : Bool → List ℕ → FrameValue → Keeping S → Type 0
+  HoldsOrigin dirty origin frame NoSlot = (dirty ≡ false) × (frame.bytes ≡ origin)
+  HoldsOrigin dirty origin frame (Saved copy) = ⊥
+  HoldsOrigin dirty origin frame (Unbacked slot) = ⊥
+  HoldsOrigin dirty origin frame (Cleaning slot) = ⊥
+  HoldsOrigin dirty origin frame CopyOut = ⊥
+
+  -- a page shows what it began with, wherever it is, until it is given up: it was never saved, and does not count as changed
+  abbrev pub IsUntouched : Bool → List ℕ → Place S → Type 0
+  IsUntouched dirty origin Fresh = Unit {0}
+  IsUntouched dirty origin (Resident frame slot) = HoldsOrigin dirty origin frame slot
+  IsUntouched dirty origin (Leaving frame slot mark) = HoldsOrigin mark origin frame slot
+  IsUntouched dirty origin (Saving frame mark) = ⊥
+  IsUntouched dirty origin (Away copy) = ⊥
+  IsUntouched dirty origin Purged = Unit {0}
+
+  -- a page that may not be written does
+  abbrev pub IsConstant : Bool → PageValue S → Type 0
+  IsConstant dirty page = may Store page.origin.rights ≡ false → IsUntouched dirty page.origin.bytes page.place
+
+  -- pages, tables and caches go together; a page with a frame has a table; where slots are honest, a page that does not count as changed equals its
+  -- backing; and whatever slots are, a page that may not be written shows what it began with
   pub record Holds (held : S → List ℕ) (honest : Type 0) (pages : List (ℕ × PageValue S)) (tables : List (List ℕ)) (caches : List (List Translation)) : Type 0 where
     pub agree : Agree (seen_at pages) (entry_at tables) caches
     pub tabled : (number : ℕ) (page : PageValue S) → number < 2 ^ 20 → page_at pages number ≡ Some page → is_some (frame_of page.place) ≡ true → has_table tables number ≡ true
     pub placed : ArePlaced pages caches
     pub backed : honest → (number : ℕ) (page : PageValue S) → number < 2 ^ 20 → page_at pages number ≡ Some page → Backed held (entry_at tables number).dirty page
+    pub constant : (number : ℕ) (page : PageValue S) → number < 2 ^ 20 → page_at pages number ≡ Some page → IsConstant (entry_at tables number).dirty page
 
   -- one page is this now, and each other what it was; each keeps its place
   pub record ChangesPage (old new : List (ℕ × PageValue S)) (number : ℕ) (page : PageValue S) : Type 0 where
@@ -74,3 +104,7 @@ module _ {S : Type 0} where
   -- the memory of a process
   abbrev pub memory_of : (S → List ℕ) → PagedValue S → Memory
   memory_of held value = memory_in held value.pages value.reserved
+
+  -- each page that may not be written stays what it was
+  abbrev pub KeepsUnwritten : (S → List ℕ) → PagedValue S → PagedValue S → Type 0
+  KeepsUnwritten held old new = SameUnwritten (memory_of held old).pages (memory_of held new).pages

@@ -2,9 +2,9 @@ use Rattle.std.proofs.Common.{◌≡◌, Some, OnOk, IfErr, ap, refl, sym, ◌�
 use Rattle.page_memory.specs.Entries.{place_of, with_value}
 use Rattle.paged_memory.specs.Filling.{IsAbsent}
 use Rattle.paged_memory.specs.Moving.{ComesIn, RefusesIn}
-use Rattle.paged_memory.specs.Paged.{PagedValue, page_at, memory_in, memory_of}
+use Rattle.paged_memory.specs.Paged.{PagedValue, SameUnwritten, flat_pages, page_at, memory_in, memory_of}
 use Rattle.paged_memory.proofs.PagedLaws.{page_at-place, page_at-nowhere}
-use Rattle.paged_memory.proofs.FillingLaws.{comes_in, holds_paged_in, memory_paged_in, pages_brought, pages_refused, entries_brought}
+use Rattle.paged_memory.proofs.FillingLaws.{comes_in, holds_paged_in, memory_paged_in, unwritten_paged_in, pages_brought, pages_refused, entries_brought}
 use Rattle.paged_memory.proofs.memory.PagedMemory.page_in.Goals as goal
 
 pub returns-in_default-clause-refused : goal.returns-in_default-clause-refused
@@ -69,3 +69,16 @@ returns-clause-memory g c is_honest =
     (pages_refused g.S.SwapSlot.content g.S.SwapSlot.honest c.args.frame c.self.inside.pages c.args.vpn c.in-Some.place c.at_mut.result.now c.bring_page_in.new.page at c.at_mut.ensures.value g.S.SwapSlot.failures c.self.inside.tables c.bring_page_in.result
     c.bring_page_in.ensures.refused)
     is_honest))
+
+pub returns-clause-unwritten : goal.returns-clause-unwritten
+returns-clause-unwritten g c =
+    let at : place_of c.args.vpn c.self.inside.pages ≡ Some c.in-Some.place = sym c.place.ensures.place ∙ c.in-Some.is in
+    let pages = with_value c.self.inside.pages c.in-Some.place c.bring_page_in.new.page in
+    subst (λ v. SameUnwritten (memory_of g.S.SwapSlot.content v).pages (flat_pages g.S.SwapSlot.content pages)) c.self.view_is
+    (unwritten_paged_in g.S.SwapSlot.content g.S.SwapSlot.honest g.S.SwapSlot.failures c.args.frame c.self.inside.pages pages c.self.inside.tables c.bring_page_in.new.tables c.args.vpn c.self.inside.caches c.bring_page_in.result c.requires
+    (pages_brought g.S.SwapSlot.content g.S.SwapSlot.honest c.args.frame c.self.inside.pages c.args.vpn c.in-Some.place c.at_mut.result.now c.bring_page_in.new.page at c.at_mut.ensures.value c.bring_page_in.result c.bring_page_in.ensures.ok)
+    (pages_refused g.S.SwapSlot.content g.S.SwapSlot.honest c.args.frame c.self.inside.pages c.args.vpn c.in-Some.place c.at_mut.result.now c.bring_page_in.new.page at c.at_mut.ensures.value g.S.SwapSlot.failures c.self.inside.tables c.bring_page_in.result
+    c.bring_page_in.ensures.refused)
+    (entries_brought c.self.inside.pages c.self.inside.tables c.bring_page_in.new.tables c.args.vpn c.args.frame (page_at-place c.self.inside.pages c.args.vpn c.in-Some.place c.at_mut.result.now at c.at_mut.ensures.value) c.bring_page_in.result
+    c.bring_page_in.ensures.entries)
+    c.bring_page_in.ensures.tables c.self.invariant)

@@ -14,10 +14,10 @@ use Rattle.tlb_core.specs.declared.translation.Translation.{Translation}
 use Rattle.paged_memory.specs.Soundness.{is_held}
 use Rattle.paged_memory.specs.Leaving.{lets_go, Collects, CollectsAt}
 use Rattle.paged_memory.specs.Calls.{ChangesBy}
-use Rattle.paged_memory.specs.Paged.{standing_of, page_at, flat_page, flat_pages, Holds, HoldsOrigin, IsConstant, IsUntouched, SameUnwritten, ChangesPage}
+use Rattle.paged_memory.specs.Paged.{standing_of, page_at, flat_page, flat_pages, Holds, HoldsOrigin, IsConstant, IsUntouched, ChangesPage}
 use Rattle.paged_memory.proofs.Holding.{held_by_none}
 use Rattle.paged_memory.proofs.PagedLaws.{memory_stays}
-use Rattle.paged_memory.proofs.ConstancyLaws.{IsThere, unwritten_moved, unwritten_same}
+use Rattle.paged_memory.proofs.ConstancyLaws.{IsThere, unwritten_moved, unwritten_same, SameUnwritten}
 use Rattle.paged_memory.proofs.MovesLaws.{IsBlank, entry_blank, holds_same, holds_moved}
 
 -- what is so of a page that a look lets go

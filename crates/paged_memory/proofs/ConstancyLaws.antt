@@ -1,9 +1,9 @@
 -- A page that may not be written shows what it began with, whatever slots are.
-use Rattle.std.specs.Prelude.{◌≡◌, ℕ, ◌^◌, ◌<◌, ◌==◌, Bool, true, false, Some, option_map, List, if◌then◌else◌, refl}
-use Rattle.std.proofs.Common.{sym, ap, ◌∙◌, subst, eqb-true}
+use Rattle.std.specs.Prelude.{◌≡◌, ℕ, ◌^◌, ◌<◌, ◌==◌, Bool, true, false, Some, option_map, List, refl}
+use Rattle.std.proofs.Common.{sym, ap, ◌∙◌, eqb-true}
 use Rattle.std.proofs.lemmas.Option.{same_Some}
 use Rattle.std.specs.FinMap.{get}
-use Rattle.page_memory.specs.Pages.{Page}
+use Rattle.page_memory.specs.Pages.{Page, Pages}
 use Rattle.page_memory.specs.Rights.{may}
 use Rattle.page_memory.specs.StandsForLaws.{get-map_by-place}
 use Rattle.page_memory.specs.declared.words.Access.TheVariants.{Store}
@@ -11,8 +11,12 @@ use Rattle.page_store.specs.Keeping.{NoSlot, Saved, Unbacked, Cleaning, CopyOut}
 use Rattle.page_store.specs.PageValue.{PageValue, Place, Fresh, Resident, Leaving, Saving, Away, Purged, shown}
 use Rattle.tlb_core.specs.declared.translation.Translation.{Translation}
 use Rattle.sv32_table.specs.EntryAt.{entry_at}
-use Rattle.paged_memory.specs.Paged.{page_at, flat_page, flat_pages, Holds, IsUntouched, SameUnwritten, ChangesPage}
+use Rattle.paged_memory.specs.Paged.{page_at, flat_page, flat_pages, Holds, IsUntouched, ChangesPage}
 use Rattle.paged_memory.proofs.PagedLaws.{choice_here, choice_other}
+
+-- the pages of one memory that may not be written are in another, as they are
+abbrev pub SameUnwritten : Pages → Pages → Type 0
+SameUnwritten old new = (number : ℕ) (page : Page) → get old number ≡ Some page → may Store page.rights ≡ false → get new number ≡ Some page
 
 -- a page was not given up
 abbrev pub IsThere : {S : Type 0} → Place S → Type 0

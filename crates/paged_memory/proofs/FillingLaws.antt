@@ -17,14 +17,14 @@ use Rattle.tlb_core.specs.declared.translation.Translation.{Translation}
 use Rattle.paged_memory.specs.Seen.{Elsewhere, entry_standing, rights_seen}
 use Rattle.paged_memory.specs.Soundness.{IsMapped}
 use Rattle.paged_memory.specs.Moving.{ComesIn}
-use Rattle.paged_memory.specs.Paged.{PagedValue, standing_of, seen_of, page_at, flat_page, flat_pages, memory_of, Holds, HoldsOrigin, IsConstant, IsUntouched, SameUnwritten}
+use Rattle.paged_memory.specs.Paged.{PagedValue, standing_of, seen_of, page_at, flat_page, flat_pages, memory_of, Holds, HoldsOrigin, IsConstant, IsUntouched}
 use Rattle.paged_memory.specs.Calls.{ChangesBy}
 use Rattle.paged_memory.specs.Filling.{BroughtIn, StaysAbsent, FailsToLoad, ComesDamaged, StaysUnmapped, RefusesAbsent, RefusesPageIn}
 use Rattle.paged_memory.specs.declared.filling.PageInFault.{PageInFault}
 use Rattle.paged_memory.specs.declared.filling.PageInFault.TheVariants.{NotAbsent, Device, Damaged, NoMemory}
 use Rattle.paged_memory.proofs.PagedLaws.{Change, changed_by, Holds-unheld, memory_stays}
 use Rattle.paged_memory.proofs.CallLaws.{mapped_resident}
-use Rattle.paged_memory.proofs.ConstancyLaws.{IsThere, unwritten_moved, unwritten_same}
+use Rattle.paged_memory.proofs.ConstancyLaws.{IsThere, unwritten_moved, unwritten_same, SameUnwritten}
 use Rattle.paged_memory.proofs.MovesLaws.{holds_moved, unheld_page}
 
 or_more : (b more : Bool) → more ≡ true → (b || more) ≡ true

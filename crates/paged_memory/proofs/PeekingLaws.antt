@@ -12,13 +12,13 @@ use Rattle.page_store.specs.Moves.{IfAbsent, IfAway, RefusesRead}
 use Rattle.page_store.specs.Reading.{some_from}
 use Rattle.swap_slots.specs.Slot.{Rose}
 use Rattle.tlb_core.specs.declared.translation.Translation.{Translation}
-use Rattle.paged_memory.specs.Paged.{page_at, flat_page, flat_pages, memory_in, Holds, SameUnwritten}
+use Rattle.paged_memory.specs.Paged.{page_at, flat_page, flat_pages, memory_in, Holds}
 use Rattle.paged_memory.specs.Calls.{ChangesBy}
 use Rattle.paged_memory.specs.Filling.{StaysAbsent, FailsToLoad}
 use Rattle.paged_memory.specs.Peeking.{bytes_of, ShowsBytes, LeavesPlace, LeavesPage}
 use Rattle.paged_memory.proofs.PagedLaws.{changed_by, page_at-place}
 use Rattle.paged_memory.proofs.FillingLaws.{holds_absent, memory_absent, unwritten_absent}
-use Rattle.paged_memory.proofs.ConstancyLaws.{unwritten_same}
+use Rattle.paged_memory.proofs.ConstancyLaws.{unwritten_same, SameUnwritten}
 
 -- a value that is put back at its place
 same_value : {T : Type 0} (entries : List (ℕ × T)) (place : ℕ) (value : T) → value_at place entries ≡ Some value → with_value entries place value ≡ entries

@@ -16,10 +16,10 @@ use Rattle.tlb_core.specs.declared.translation.Translation.{Translation}
 use Rattle.paged_memory.specs.Leaving.{IsSaving, IsOut, ChangesSaved, Frees, RefusesSaved}
 use Rattle.paged_memory.specs.Calls.{ChangesBy}
 use Rattle.paged_memory.specs.Moving.{OnlyPages, SavedAway}
-use Rattle.paged_memory.specs.Paged.{PagedValue, standing_of, flat_pages, Holds, IsUntouched, SameUnwritten}
+use Rattle.paged_memory.specs.Paged.{PagedValue, standing_of, flat_pages, Holds, IsUntouched}
 use Rattle.paged_memory.proofs.PagedLaws.{page_at-place, page_at-nowhere, changes_at_place, changed_by, memory_stays}
 use Rattle.paged_memory.proofs.MovesLaws.{IsBlank, unheld_page, holds_moved, with_same}
-use Rattle.paged_memory.proofs.ConstancyLaws.{IsThere, unwritten_moved, unwritten_same}
+use Rattle.paged_memory.proofs.ConstancyLaws.{IsThere, unwritten_moved, unwritten_same, SameUnwritten}
 
 always : (b : Bool) → (b || true) ≡ true
 always true = refl

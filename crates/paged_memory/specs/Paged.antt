@@ -1,6 +1,5 @@
 -- The pages, page tables and translation caches of one process, and the memory that they stand for.
 use Rattle.std.specs.Prelude.{◌≡◌, ℕ, ◌^◌, ◌<◌, ◌==◌, Bool, true, false, if◌then◌else◌, Option, Some, option_map, option_and_then, is_some, List, All}
-use Rattle.std.specs.FinMap.{get}
 use Rattle.frame_pool.specs.FrameValue.{FrameValue}
 use Rattle.page_memory.specs.declared.words.Access.TheVariants.{Store}
 use Rattle.page_memory.specs.Pages.{Page, Pages}
@@ -15,10 +14,6 @@ use Rattle.tlb_core.specs.declared.translation.Translation.{Translation}
 use Rattle.paged_memory.specs.Seen.{Standing, Seen}
 use Rattle.paged_memory.specs.Seen as seen
 use Rattle.paged_memory.specs.Soundness.{Agree}
-
--- the pages of one memory that may not be written are in another, as they are
-abbrev pub SameUnwritten : Pages → Pages → Type 0
-SameUnwritten old new = (number : ℕ) (page : Page) → get old number ≡ Some page → may Store page.rights ≡ false → get new number ≡ Some page
 
 -- the number of the process; the pages by their places, each with its number; the tables; the cache of each hart; and the words
 -- that harts have reserved
@@ -104,7 +99,3 @@ module _ {S : Type 0} where
   -- the memory of a process
   abbrev pub memory_of : (S → List ℕ) → PagedValue S → Memory
   memory_of held value = memory_in held value.pages value.reserved
-
-  -- each page that may not be written stays what it was
-  abbrev pub KeepsUnwritten : (S → List ℕ) → PagedValue S → PagedValue S → Type 0
-  KeepsUnwritten held old new = SameUnwritten (memory_of held old).pages (memory_of held new).pages

@@ -2,7 +2,8 @@
 
 ghost use Rattle.std.specs.Prelude.{◌≡◌, ◌<◌, ◌^◌, false};
 ghost use Rattle.paged_memory.specs.Leaving.{CollectsAt, lets_go};
-ghost use Rattle.paged_memory.specs.Paged.{KeepsUnwritten, page_at, memory_of};
+ghost use Rattle.page_memory.specs.ReadOnly.{KeepsReadOnly};
+ghost use Rattle.paged_memory.specs.Paged.{page_at, memory_of};
 ghost use Rattle.paged_memory.specs.Moving.{LooksAt, OnlyPages};
 
 use crate::memory::PagedMemory;
@@ -26,7 +27,8 @@ impl<L: Ledger, S: SwapSlot> PagedMemory<L, S> {
         ensures stays { OnlyPages self.old self.new }
         ensures same { lets_go result ≡ false → self.new ≡ self.old }
         ensures memory { S.honest → memory_of S.content self.new ≡ memory_of S.content self.old }
-        ensures unwritten { KeepsUnwritten S.content self.old self.new }
+        ensures read_only { KeepsReadOnly (memory_of S.content self.old)
+            (memory_of S.content self.new) }
     {
         let cached = self.caches.is_held(vpn);
         collect_page(&mut self.pages, self.process, vpn, cached, spare, room)

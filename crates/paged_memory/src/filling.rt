@@ -4,7 +4,8 @@ ghost use Rattle.std.specs.Prelude.{◌≡◌, ◌<◌, ◌^◌, true, false, So
 ghost use Rattle.std.specs.Bool.{OnTrue, OnFalse};
 ghost use Rattle.sv32_table.specs.Entry.{page_entry};
 ghost use Rattle.sv32_table.specs.EntryAt.{has_table, ChangesEntry, AddsTable};
-ghost use Rattle.paged_memory.specs.Paged.{KeepsUnwritten, page_at, memory_of};
+ghost use Rattle.page_memory.specs.ReadOnly.{KeepsReadOnly};
+ghost use Rattle.paged_memory.specs.Paged.{page_at, memory_of};
 ghost use Rattle.page_store.specs.PageValue.{content, Backed, kept_digest};
 ghost use Rattle.page_store.specs.Moves.{IfResident};
 ghost use Rattle.paged_memory.specs.Filling.{IsAbsent, IsUnchanged, dropped, fault_of, BroughtIn};
@@ -49,7 +50,8 @@ impl<L: Ledger, S: SwapSlot> PagedMemory<L, S> {
         ensures refused { IfErr result (λ back.
             RefusesIn S.content S.honest S.failures frame vpn back.0 back.1 self.old self.new) }
         ensures memory { S.honest → memory_of S.content self.new ≡ memory_of S.content self.old }
-        ensures unwritten { KeepsUnwritten S.content self.old self.new }
+        ensures read_only { KeepsReadOnly (memory_of S.content self.old)
+            (memory_of S.content self.new) }
         ensures unmapped { OnErr result (SameEntries self.old self.new) }
         ensures process { self.new.process ≡ self.old.process }
         ensures caches { SameCaches self.old self.new }

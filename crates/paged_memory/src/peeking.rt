@@ -3,7 +3,8 @@
 ghost use Rattle.std.specs.Prelude.{◌≡◌, ◌+◌, ◌<◌, ◌≤◌, ◌^◌, Some, IfErr, OnErr, OnOk, length};
 ghost use Rattle.page_memory.specs.Words.{page_offset};
 ghost use Rattle.paged_memory.specs.Moving.{DoesNotShow, LeavesLookedAt, OnlyPages, ShowsIn};
-ghost use Rattle.paged_memory.specs.Paged.{KeepsUnwritten, page_at, memory_of};
+ghost use Rattle.page_memory.specs.ReadOnly.{KeepsReadOnly};
+ghost use Rattle.paged_memory.specs.Paged.{page_at, memory_of};
 ghost use Rattle.paged_memory.specs.Peeking.{bytes_of, ShowsBytes, LeavesPage, RefusesPeek};
 
 use crate::memory::PagedMemory;
@@ -38,7 +39,8 @@ impl<L: Ledger, S: SwapSlot> PagedMemory<L, S> {
             self.new) }
         ensures left { LeavesLookedAt S.content S.honest address self.old self.new }
         ensures memory { S.honest → memory_of S.content self.new ≡ memory_of S.content self.old }
-        ensures unwritten { KeepsUnwritten S.content self.old self.new }
+        ensures read_only { KeepsReadOnly (memory_of S.content self.old)
+            (memory_of S.content self.new) }
         ensures stays { OnlyPages self.old self.new }
     {
         read_page(

@@ -2,7 +2,8 @@
 
 ghost use Rattle.std.specs.Prelude.{◌≡◌, IfOk, IfErr};
 ghost use Rattle.paged_memory.specs.Moving.{IsNotSaved, OnlyPages, SavedAway};
-ghost use Rattle.paged_memory.specs.Paged.{KeepsUnwritten, memory_of};
+ghost use Rattle.page_memory.specs.ReadOnly.{KeepsReadOnly};
+ghost use Rattle.paged_memory.specs.Paged.{memory_of};
 
 use crate::memory::PagedMemory;
 use frame_pool::Frame;
@@ -24,7 +25,8 @@ impl<L: Ledger, S: SwapSlot> PagedMemory<L, S> {
         ensures refused { IfErr result (λ refusal. IsNotSaved job refusal self.old self.new) }
         ensures stays { OnlyPages self.old self.new }
         ensures memory { S.honest → memory_of S.content self.new ≡ memory_of S.content self.old }
-        ensures unwritten { KeepsUnwritten S.content self.old self.new }
+        ensures read_only { KeepsReadOnly (memory_of S.content self.old)
+            (memory_of S.content self.new) }
     {
         let vpn = job.vpn();
         if job.process() != self.process || vpn >= PAGE_COUNT {

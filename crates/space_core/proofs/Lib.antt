@@ -6,9 +6,11 @@ pub mod Spaces
 pub mod FromBelowLaws
 pub mod StepEnds
 pub mod SliceLaws
-mod PagingSpaces
+pub mod PagingSpaces
 pub mod FreshPages
 pub mod Opened
+pub mod CodeKept
+pub mod CodeSpaces
 pub mod Bounding
 pub mod StepsOn
 pub mod SliceChain

@@ -2,6 +2,8 @@
 use Rattle.std.specs.Prelude.{◌≡◌, ℕ, Bool, Option, Some, None, List, length}
 use Rattle.page_memory.specs.Memory.{Memory}
 use Rattle.elf_image.specs.Image.{ImageContent}
+use Rattle.decoded_pages.specs.declared.pages.DecodedPages.{DecodedPages}
+use Rattle.decoded_pages.specs.Code.{ShowsAll}
 use Rattle.paged_memory.specs.Paged.{PagedValue, memory_of}
 pub use Rattle.paged_memory.specs.Showing.{rights_of, paged_rights, is_purged}
 use Rattle.paged_memory.specs.Showing.{ShowsFlat}
@@ -51,3 +53,8 @@ module _ {S : Type 0} where
   pub record IsSpace (held : S → List ℕ) (honest : Type 0) (space : SpaceValue S) : Type 0 where
     pub stands : honest → StandsFor held space
     pub cached : harts_in space.memory ≡ length space.running.harts
+
+  -- and until an ending what was decoded of its pages is what its memory has
+  pub record IsDecodedSpace (held : S → List ℕ) (honest : Type 0) (decoded : DecodedPages) (value : SpaceValue S) : Type 0 where
+    pub space : IsSpace held honest value
+    pub code : value.running.ending ≡ None → ShowsAll decoded (memory_of held value.memory)

@@ -12,7 +12,7 @@ use crate::recorded::Recorded;
 use crate::same_image::is_same_image;
 use crate::space::Space;
 use elf_image::{Image, ImagePage};
-use flat_machine::{STACK_PAGES, STACK_START};
+use flat_machine::{STACK_PAGES, STACK_START, decoded_pages_of};
 use paged_memory::PagedMemory;
 use shared_origins::SharedBytes;
 use std::alloc::{AllocError, Global};
@@ -39,7 +39,9 @@ impl<L: Ledger, S: SwapSlot> Space<L, S> {
         ensures reserved { IfOk result (λ space. space.memory.reserved ≡ none_reserved) }
         ensures purged { IfOk result (λ space. space.purged ≡ false) }
     {
-        let memory = opening_memory(alloc, process, image.pages())?;
+        let pages = image.pages();
+        let memory = opening_memory(alloc, process, pages)?;
+        let decoded = decoded_pages_of(alloc, pages)?;
         let input = SharedBytes::new(alloc, input)?;
         let recorded = Recorded::new(alloc, &image, input.share()?)?;
         Ok(Space {
@@ -47,6 +49,7 @@ impl<L: Ledger, S: SwapSlot> Space<L, S> {
             input,
             recorded,
             memory,
+            decoded,
             purged: false,
         })
     }

@@ -11,6 +11,7 @@ ghost use Rattle.space_core.specs.Caches.{noticed, if_killed};
 ghost use Rattle.space_core.specs.StandsFor.{OfFlat, own_ending};
 
 use crate::recorded::Recorded;
+use decoded_pages::DecodedPages;
 use elf_image::Image;
 use flat_machine::{End, KillCause, Schedule, Turn};
 use page_store::{LeaveRefusal, PageState};
@@ -28,12 +29,14 @@ pub struct Space<L: Ledger, S: SwapSlot> {
     pub(crate) input: SharedBytes,
     pub(crate) recorded: Recorded,
     pub(crate) memory: PagedMemory<L, S>,
+    /// The pages of its memory that may be run and never written.
+    pub(crate) decoded: DecodedPages,
     /// Whether it has given all its pages back.
     pub(crate) purged: bool,
 }
 
 impl<L: Ledger, S: SwapSlot> Model for Space<L, S> {
-    ghost use Rattle.space_core.specs.StandsFor.{SpaceValue, IsSpace};
+    ghost use Rattle.space_core.specs.StandsFor.{SpaceValue, IsDecodedSpace};
 
     ghost Value = { SpaceValue S };
 
@@ -46,7 +49,7 @@ impl<L: Ledger, S: SwapSlot> Model for Space<L, S> {
       purged = space.purged;
     } };
 
-    ghost invariant = { λ space. IsSpace S.content S.honest
+    ghost invariant = { λ space. IsDecodedSpace S.content S.honest space.decoded
         (record {
           image = space.image;
           input = space.input;

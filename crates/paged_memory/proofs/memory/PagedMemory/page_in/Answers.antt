@@ -2,8 +2,9 @@ use Rattle.std.proofs.Common.{◌≡◌, Some, OnOk, IfErr, ap, refl, sym, ◌�
 use Rattle.page_memory.specs.Entries.{place_of, with_value}
 use Rattle.paged_memory.specs.Filling.{IsAbsent}
 use Rattle.paged_memory.specs.Moving.{ComesIn, RefusesIn}
-use Rattle.paged_memory.specs.Paged.{PagedValue, SameUnwritten, flat_pages, page_at, memory_in, memory_of}
+use Rattle.paged_memory.specs.Paged.{PagedValue, flat_pages, page_at, memory_in, memory_of}
 use Rattle.paged_memory.proofs.PagedLaws.{page_at-place, page_at-nowhere}
+use Rattle.paged_memory.proofs.ConstancyLaws.{SameUnwritten}
 use Rattle.paged_memory.proofs.FillingLaws.{comes_in, holds_paged_in, memory_paged_in, unwritten_paged_in, pages_brought, pages_refused, entries_brought}
 use Rattle.paged_memory.proofs.memory.PagedMemory.page_in.Goals as goal
 
@@ -70,8 +71,8 @@ returns-clause-memory g c is_honest =
     c.bring_page_in.ensures.refused)
     is_honest))
 
-pub returns-clause-unwritten : goal.returns-clause-unwritten
-returns-clause-unwritten g c =
+pub returns-clause-read_only : goal.returns-clause-read_only
+returns-clause-read_only g c =
     let at : place_of c.args.vpn c.self.inside.pages ≡ Some c.in-Some.place = sym c.place.ensures.place ∙ c.in-Some.is in
     let pages = with_value c.self.inside.pages c.in-Some.place c.bring_page_in.new.page in
     subst (λ v. SameUnwritten (memory_of g.S.SwapSlot.content v).pages (flat_pages g.S.SwapSlot.content pages)) c.self.view_is

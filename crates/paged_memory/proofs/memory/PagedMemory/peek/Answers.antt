@@ -1,7 +1,8 @@
 use Rattle.std.proofs.Common.{◌≡◌, Some, ap, subst}
 use Rattle.std.specs.Prelude.{OnOk, length}
-use Rattle.paged_memory.specs.Paged.{SameUnwritten, flat_pages, page_at, memory_in, memory_of}
+use Rattle.paged_memory.specs.Paged.{flat_pages, page_at, memory_in, memory_of}
 use Rattle.paged_memory.specs.Peeking.{bytes_of}
+use Rattle.paged_memory.proofs.ConstancyLaws.{SameUnwritten}
 use Rattle.paged_memory.proofs.PeekingLaws.{holds_peeked, memory_peeked, unwritten_peeked, bytes_shown}
 use Rattle.paged_memory.proofs.memory.PagedMemory.peek.Goals as goal
 
@@ -20,7 +21,7 @@ returns-clause-memory g c is_honest =
     subst (λ v. memory_in g.S.SwapSlot.content c.read_page.new.pages c.self.inside.reservations ≡ memory_of g.S.SwapSlot.content v) c.self.view_is
     (ap (λ p. record { pages = p; reserved = c.self.inside.reservations }) (memory_peeked g.S.SwapSlot.content g.S.SwapSlot.honest c.self.inside.pages c.read_page.new.pages c.page_of.result (page_at c.self.inside.pages c.page_of.result) c.read_page.ensures.left is_honest))
 
-pub returns-clause-unwritten : goal.returns-clause-unwritten
-returns-clause-unwritten g c =
+pub returns-clause-read_only : goal.returns-clause-read_only
+returns-clause-read_only g c =
     subst (λ v. SameUnwritten (memory_of g.S.SwapSlot.content v).pages (flat_pages g.S.SwapSlot.content c.read_page.new.pages)) c.self.view_is
     (unwritten_peeked g.S.SwapSlot.content g.S.SwapSlot.honest c.self.inside.pages c.read_page.new.pages c.self.inside.tables c.self.inside.caches c.page_of.result (page_at c.self.inside.pages c.page_of.result) c.page_of.ensures.small c.read_page.ensures.left c.self.invariant)

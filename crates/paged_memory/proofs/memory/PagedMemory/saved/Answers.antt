@@ -2,7 +2,8 @@ use Rattle.std.proofs.Common.{◌≡◌, ◌<◌, ◌^◌, Some, None, IfErr, If
 use Rattle.page_memory.specs.Entries.{place_of, with_value}
 use Rattle.paged_memory.specs.Leaving.{IsOut}
 use Rattle.paged_memory.specs.Moving.{IsNotSaved, SavedAway}
-use Rattle.paged_memory.specs.Paged.{PagedValue, SameUnwritten, flat_pages, memory_in, memory_of}
+use Rattle.paged_memory.specs.Paged.{PagedValue, flat_pages, memory_in, memory_of}
+use Rattle.paged_memory.proofs.ConstancyLaws.{SameUnwritten}
 use Rattle.paged_memory.proofs.SavingLaws.{holds_saved, unwritten_saved, out_nowhere, freed_there, refused_there, memory_there, saved_away}
 use Rattle.paged_memory.proofs.memory.PagedMemory.saved.Goals as goal
 
@@ -49,8 +50,8 @@ returns-clause-memory g c is_honest =
     (ap (λ p. record { pages = p; reserved = c.self.inside.reservations })
     (memory_there c.self.inside.process c.args.job c.self.inside.pages c.in-Some.place c.at_mut.result.now c.saved_in.new.self at c.at_mut.ensures.value c.saved_in.ensures.origin g.S.SwapSlot.content (c.saved_in.ensures.content is_honest)))
 
-pub returns-clause-unwritten : goal.returns-clause-unwritten
-returns-clause-unwritten g c =
+pub returns-clause-read_only : goal.returns-clause-read_only
+returns-clause-read_only g c =
     let at : place_of c.args.job.vpn c.self.inside.pages ≡ Some c.in-Some.place = ap (λ v. place_of v c.self.inside.pages) (sym c.vpn-vpn.ensures) ∙ sym c.place.ensures.place ∙ c.in-Some.is in
     let its : c.args.job.process ≡ c.self.inside.process = cc in
     let small : c.args.job.vpn < 2 ^ 20 = omega arith in

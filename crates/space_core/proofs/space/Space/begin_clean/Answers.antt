@@ -4,14 +4,14 @@ use Rattle.paged_memory.specs.CopiesCallLaws.{begun_copies}
 use Rattle.space_core.specs.StandsFor.{SpaceValue}
 use Rattle.paged_memory.specs.NoticesLaws.{begun_harts}
 use Rattle.paged_memory.specs.ShowingLaws.{begun_given_up}
-use Rattle.space_core.proofs.Spaces.{space_memory}
+use Rattle.space_core.proofs.CodeSpaces.{decoded_memory}
 use Rattle.space_core.proofs.space.Space.begin_clean.Goals as goal
 
 pub invariant_of-self : goal.invariant_of-self
 invariant_of-self g c =
     let inside : SpaceValue g.row.S.Denot = record { image = c.self.inside.image; input = c.self.inside.input; running = c.self.inside.recorded.running; schedule = c.self.inside.recorded.schedule; memory = c.self.inside.memory; purged = c.self.inside.purged } in
     let did = c.begin_clean.ensures in
-    space_memory g.S.SwapSlot.content g.S.SwapSlot.honest inside c.begin_clean.new.self
+    decoded_memory g.S.SwapSlot.content g.S.SwapSlot.honest c.self.inside.decoded inside c.begin_clean.new.self
     (begun_harts c.is_some-ended.result c.begin_clean.result c.args.vpn c.self.inside.memory c.begin_clean.new.self did.err did.ok) did.memory
     (begun_given_up c.is_some-ended.result c.begin_clean.result c.self.inside.memory c.begin_clean.new.self c.args.vpn did.err did.ok)
     c.self.invariant

@@ -4,14 +4,14 @@ use Rattle.paged_memory.specs.CopiesCallLaws.{returned_copies}
 use Rattle.space_core.specs.StandsFor.{SpaceValue}
 use Rattle.paged_memory.specs.ShowingLaws.{returned_given_up}
 use Rattle.paged_memory.specs.UsingLaws.{same_harts}
-use Rattle.space_core.proofs.Spaces.{space_moved}
+use Rattle.space_core.proofs.CodeSpaces.{decoded_memory}
 use Rattle.space_core.proofs.space.Space.bring_back.Goals as goal
 
 pub invariant_of-self : goal.invariant_of-self
 invariant_of-self g c =
     let inside : SpaceValue g.row.S.Denot = record { image = c.self.inside.image; input = c.self.inside.input; running = c.self.inside.recorded.running; schedule = c.self.inside.recorded.schedule; memory = c.self.inside.memory; purged = c.self.inside.purged } in
-    space_moved g.S.SwapSlot.content g.S.SwapSlot.honest inside c.bring_back.new.self
-    (same_harts c.self.inside.memory c.bring_back.new.self c.bring_back.ensures.caches) (λ is_honest. c.bring_back.ensures.memory)
+    decoded_memory g.S.SwapSlot.content g.S.SwapSlot.honest c.self.inside.decoded inside c.bring_back.new.self
+    (same_harts c.self.inside.memory c.bring_back.new.self c.bring_back.ensures.caches) c.bring_back.ensures.memory
     (returned_given_up c.bring_back.result c.self.inside.memory c.bring_back.new.self c.args.vpn c.bring_back.ensures.ok c.bring_back.ensures.err)
     c.self.invariant
 

@@ -3,14 +3,14 @@ use Rattle.paged_memory.specs.CopiesCallLaws.{copies_out}
 use Rattle.paged_memory.specs.Cleaning.{CopiesOut}
 use Rattle.space_core.specs.StandsFor.{SpaceValue}
 use Rattle.paged_memory.specs.ShowingLaws.{copied_given_up}
-use Rattle.space_core.proofs.Spaces.{pages_moved}
+use Rattle.space_core.proofs.CodeSpaces.{decoded_pages_same}
 use Rattle.space_core.proofs.space.Space.copy_clean.Goals as goal
 
 pub invariant_of-self : goal.invariant_of-self
 invariant_of-self g c =
     let inside : SpaceValue g.row.S.Denot = record { image = c.self.inside.image; input = c.self.inside.input; running = c.self.inside.recorded.running; schedule = c.self.inside.recorded.schedule; memory = c.self.inside.memory; purged = c.self.inside.purged } in
     let did = c.copy_clean.ensures in
-    pages_moved g.S.SwapSlot.content g.S.SwapSlot.honest inside c.copy_clean.new.self did.stays (λ is_honest. did.memory)
+    decoded_pages_same g.S.SwapSlot.content g.S.SwapSlot.honest c.self.inside.decoded inside c.copy_clean.new.self did.stays did.memory
     (copied_given_up c.args.vpn c.args.spare.now c.copy_clean.new.spare c.copy_clean.result c.self.inside.memory c.copy_clean.new.self did.answer)
     c.self.invariant
 

@@ -2,6 +2,9 @@ use Rattle.space_core.proofs.space.Space.mark_purged.Goals as goal
 
 pub invariant_of-self : goal.invariant_of-self
 invariant_of-self g c = record {
-  stands = λ honest. let stands = c.self.invariant.stands honest in record { memory = stands.memory; ran = stands.ran; shows = stands.shows; still = stands.still };
-  cached = c.self.invariant.cached;
+  space = record {
+    stands = λ honest. let stands = c.self.invariant.space.stands honest in record { memory = stands.memory; ran = stands.ran; shows = stands.shows; still = stands.still };
+    cached = c.self.invariant.space.cached;
+  };
+  code = c.self.invariant.code;
 }

@@ -9,7 +9,7 @@ use Rattle.space_core.proofs.space.Space.slice.Goals as goal
 all : (g : Over) (c : goal.After-slice_each g) → Together g.S.SwapSlot.content g.S.SwapSlot.honest c.args.hart c.args.budget c.slice_each.result.ran c.slice_each.result.stop c.args.self.now c.slice_each.new.self
 all g c =
     together g.S.SwapSlot.content g.S.SwapSlot.honest c.args.hart c.args.budget c.slice_each.result.ran c.slice_each.result.stop c.args.self.now c.slice_each.new.self
-    (subst (IsSpace g.S.SwapSlot.content g.S.SwapSlot.honest) c.self.view_is (record { stands = c.self.invariant.stands; cached = c.self.invariant.cached }))
+    (subst (IsSpace g.S.SwapSlot.content g.S.SwapSlot.honest) c.self.view_is (record { stands = c.self.invariant.space.stands; cached = c.self.invariant.space.cached }))
     (subst (λ (s : SpaceValue g.row.S.Denot). Coheres g.S.SwapSlot.content g.S.SwapSlot.honest s.memory) c.self.view_is
     (record { agree = c.coherent.ensures.agree; accessed = c.coherent.ensures.accessed; framed = c.coherent.ensures.framed; unmarked = c.coherent.ensures.unmarked; walks = c.coherent.ensures.walks }))
     c.slice_each.ensures.each

@@ -5,7 +5,7 @@ use Rattle.paged_memory.specs.Copies.{LeavesCopies}
 use Rattle.paged_memory.specs.CopiesCallLaws.{taken_copies}
 use Rattle.space_core.specs.RunningValue.{RunningValue}
 use Rattle.space_core.specs.StandsFor.{SpaceValue}
-use Rattle.space_core.proofs.PagingSpaces.{space_given_up}
+use Rattle.space_core.proofs.CodeSpaces.{decoded_given_up}
 use Rattle.space_core.proofs.space.Space.take_from.Goals as goal
 
 pub take_from-requires : goal.take_from-requires
@@ -21,7 +21,7 @@ invariant_of-self g c =
     let inside : SpaceValue g.row.S.Denot = record { image = c.self.inside.image; input = c.self.inside.input; running = c.self.inside.recorded.running; schedule = c.self.inside.recorded.schedule; memory = c.self.inside.memory; purged = c.self.inside.purged } in
     let did = c.take_from.ensures in
     let ended : c.self.inside.recorded.running.ending ≡ Some c.in_ok-end.field-0 = ap (λ (r : RunningValue). r.ending) (sym c.running.ensures) ∙ sym c.end.ensures ∙ c.in_ok-end.was in
-    space_given_up g.S.SwapSlot.content g.S.SwapSlot.honest inside c.take_from.new.self c.in_ok-end.field-0 ended c.clear_caches.new.self c.take_from.result c.clear_caches.ensures did.left did.given did.caches did.reserved c.self.invariant
+    decoded_given_up g.S.SwapSlot.content g.S.SwapSlot.honest c.self.inside.decoded inside c.take_from.new.self c.in_ok-end.field-0 ended c.clear_caches.new.self c.take_from.result c.clear_caches.ensures did.left did.given did.caches did.reserved c.self.invariant
 
 pub returns-clause-copies : goal.returns-clause-copies
 returns-clause-copies g c =

@@ -4,14 +4,14 @@ use Rattle.paged_memory.specs.ShowingLaws.{forgotten_given_up, forgotten_shown}
 use Rattle.paged_memory.specs.Copies.{LeavesCopies}
 use Rattle.paged_memory.specs.CopiesCallLaws.{forgotten_copies}
 use Rattle.space_core.specs.StandsFor.{SpaceValue}
-use Rattle.space_core.proofs.Spaces.{space_memory}
+use Rattle.space_core.proofs.CodeSpaces.{decoded_memory}
 use Rattle.space_core.proofs.space.Space.test_and_clear.Goals as goal
 
 pub invariant_of-self : goal.invariant_of-self
 invariant_of-self g c =
     let inside : SpaceValue g.row.S.Denot = record { image = c.self.inside.image; input = c.self.inside.input; running = c.self.inside.recorded.running; schedule = c.self.inside.recorded.schedule; memory = c.self.inside.memory; purged = c.self.inside.purged } in
     let did = c.test_and_clear_accessed.ensures in
-    space_memory g.S.SwapSlot.content g.S.SwapSlot.honest inside c.test_and_clear_accessed.new.self
+    decoded_memory g.S.SwapSlot.content g.S.SwapSlot.honest c.self.inside.decoded inside c.test_and_clear_accessed.new.self
     (cleared_harts c.test_and_clear_accessed.result c.args.vpn c.self.inside.memory c.test_and_clear_accessed.new.self did.gone did.forgets)
     (forgotten_shown g.S.SwapSlot.content c.test_and_clear_accessed.result c.args.vpn inside.memory c.test_and_clear_accessed.new.self did.gone did.forgets)
     (forgotten_given_up c.test_and_clear_accessed.result c.args.vpn inside.memory c.test_and_clear_accessed.new.self did.gone did.forgets) c.self.invariant

@@ -1,6 +1,9 @@
 -- A decoded instruction that was done has done what its line says.
-use Rattle.std.proofs.Common.{◌≡◌, ◌<◌, ℕ, ◌+◌, ◌-◌, ◌*◌, ◌%◌, ◌^◌, ◌==◌, Bool, true, false, Ok, ap, ◌∙◌, sym, subst, refl, arith, eq-eqb}
+use Rattle.std.proofs.Common.{◌≡◌, ◌<◌, ℕ, ◌+◌, ◌-◌, ◌*◌, ◌%◌, ◌^◌, ◌==◌, Bool, true, false, [], ◌∷◌, All, Ok, ap, ◌∙◌, sym, subst, refl, arith, eq-eqb}
+use Rattle.page_memory.specs.declared.words.Access.{Access}
+use Rattle.page_memory.specs.declared.words.Access.TheVariants as access
 use Rattle.page_memory.specs.Memory.{Memory, loaded, stored}
+use Rattle.page_memory.specs.Words.{page_number}
 use Rattle.rv_isa.specs.declared.kinds.BranchKind.{BranchKind}
 use Rattle.rv_isa.specs.declared.kinds.LoadKind.{LoadKind}
 use Rattle.rv_isa.specs.declared.kinds.StoreKind.{StoreKind}
@@ -12,11 +15,14 @@ use Rattle.rv_exec.specs.Arithmetic.{word_sum, even, result_of, immediate_operat
 use Rattle.rv_exec.specs.Registers.{Registers, register, with_register, with_pc, next_pc}
 use Rattle.rv_exec.specs.RegistersLaws.{read_aside, advanced, computed_aside, landed_aside}
 use Rattle.rv_exec.specs.Line.{Line, Next, computed, landed, jumped, load_line, store_line, after_load, after_store}
+use Rattle.rv_exec.specs.LineLaws.{all_front, all_none}
+use Rattle.rv_exec.specs.Uses.{page_of_access, load_pages, store_pages}
 use Rattle.decoded_pages.specs.declared.performing.After.{After}
 use Rattle.decoded_pages.specs.declared.performing.After.TheVariants as after
 use Rattle.decoded_pages.specs.declared.instruction.DecodedInstruction.{DecodedInstruction}
-use Rattle.decoded_pages.specs.Classes.{Class, Continues, Constant, Links, Jumps, LinksRegister, JumpsRegister, Branches, Loads, Stores, WithImmediate, Shifts, Operates, class_of, class_line, decoded_as, OfClass, Falls, branch_target}
-use Rattle.decoded_pages.specs.Following.{Performs, Stays}
+use Rattle.decoded_pages.specs.Classes.{Class, Continues, Constant, Links, Jumps, LinksRegister, JumpsRegister, Branches, Loads, Stores, WithImmediate, Shifts, Operates, class_of, class_line, class_data, class_stores, decoded_as, data_of, stores_of, OfClass, Falls, branch_target}
+use Rattle.decoded_pages.specs.Following.{Performs, Reaches, Stays, WhereDone}
+use Rattle.decoded_pages.specs.Running.{IsServed}
 
 -- where it was not done, nothing has changed
 pub undone : (decoded : DecodedInstruction) (start place : ℕ) (regs regs' : Registers) (memory memory' : Memory) → regs' ≡ regs → memory' ≡ memory → Performs decoded start place after.ByWord regs regs' memory memory'
@@ -231,3 +237,69 @@ jumped_register decoded start place target regs memory class s page t at aligned
     ∙ ap (λ r. Next r memory) (to_zero (with_pc (with_pc regs pc) target) (next_pc (with_pc regs pc)) ∙ again regs pc target)
     ∙ ap (λ k. Next (with_pc regs k) memory) (sym (back_to start target s t)))
     (aligned_past start target s page aligned)
+
+-- ---- the pages of its data
+
+-- whether a class loads or stores
+abbrev pub has_data : Class → Bool
+has_data (Loads kind) = true
+has_data (Stores kind) = true
+has_data _ = false
+
+no_data : (c : Class) (rs1 rs2 immediate : ℕ) (regs : Registers) (memory : Memory) → has_data c ≡ false → class_data c rs1 rs2 immediate regs memory ≡ []
+no_data (Loads kind) rs1 rs2 immediate regs memory h = absurd (cc)
+no_data (Stores kind) rs1 rs2 immediate regs memory h = absurd (cc)
+no_data _ rs1 rs2 immediate regs memory h = refl
+
+no_stores : (c : Class) (rs1 rs2 immediate : ℕ) (regs : Registers) (memory : Memory) → has_data c ≡ false → class_stores c rs1 rs2 immediate regs memory ≡ []
+no_stores (Stores kind) rs1 rs2 immediate regs memory h = absurd (cc)
+no_stores _ rs1 rs2 immediate regs memory h = refl
+
+where_done : (result : After) (fact : Type 0) → fact → WhereDone result fact
+where_done after.Next fact h = h
+where_done (after.To relative) fact h = h
+where_done after.ByWord fact h = tt
+
+module _ {B : Type 0} (memory : B → Memory) (serves : B → Access → ℕ → Type 0) (stays : B → B → Type 0) (decoded : DecodedInstruction) where
+  pub unreached : (regs : Registers) (old new : B) → Reaches memory serves stays decoded after.ByWord regs old new
+  unreached regs old new = record { used = tt; stored = tt; stayed = tt }
+
+  pub apart : (result : After) (regs : Registers) (same : B) → stays same same → has_data (class_of decoded.operation) ≡ false → Reaches memory serves stays decoded result regs same same
+  unfolding data_of stores_of
+  apart result regs same itself none =
+      let used = no_data (class_of decoded.operation) decoded.rs1 decoded.rs2 decoded.immediate regs (memory same) none in
+      let stored = no_stores (class_of decoded.operation) decoded.rs1 decoded.rs2 decoded.immediate regs (memory same) none in
+      record {
+        used = where_done result _ (subst (All (IsServed serves same)) (sym used) (all_none (IsServed serves same)));
+        stored = where_done result _ (subst (All (serves same access.Store)) (sym stored) (all_none (serves same access.Store)));
+        stayed = where_done result _ itself;
+      }
+
+  pub reached_load : (kind : LoadKind) (address number : ℕ) (regs : Registers) (same : B) → class_of decoded.operation ≡ Loads kind
+      → address ≡ word_sum (register regs decoded.rs1) decoded.immediate → loaded (memory same) (load_width kind) address ≡ Ok number
+      → serves same access.Load (page_number address) → stays same same → Reaches memory serves stays decoded after.Next regs same same
+  unfolding data_of stores_of load_pages
+  reached_load kind address number regs same class at is served itself =
+      let used : data_of decoded regs (memory same) ≡ page_number address ∷ [] =
+      ap (λ c. class_data c decoded.rs1 decoded.rs2 decoded.immediate regs (memory same)) class ∙ ap (load_pages (memory same) kind) (sym at) ∙ ap (page_of_access address) is in
+      let stored : stores_of decoded regs (memory same) ≡ [] = ap (λ c. class_stores c decoded.rs1 decoded.rs2 decoded.immediate regs (memory same)) class in
+      record {
+        used = subst (All (IsServed serves same)) (sym used) (all_front (IsServed serves same) (page_number address) [] (access.Load, served) (all_none (IsServed serves same)));
+        stored = subst (All (serves same access.Store)) (sym stored) (all_none (serves same access.Store));
+        stayed = itself;
+      }
+
+  pub reached_store : (kind : StoreKind) (address : ℕ) (regs : Registers) (old new : B) → class_of decoded.operation ≡ Stores kind
+      → address ≡ word_sum (register regs decoded.rs1) decoded.immediate → stored (memory old) (store_width kind) address (register regs decoded.rs2) ≡ Ok (memory new)
+      → serves old access.Store (page_number address) → stays old new → Reaches memory serves stays decoded after.Next regs old new
+  unfolding data_of stores_of store_pages
+  reached_store kind address regs old new class at is served kept =
+      let whole : store_pages (memory old) kind (word_sum (register regs decoded.rs1) decoded.immediate) (register regs decoded.rs2) ≡ page_number address ∷ [] =
+      ap (λ a. store_pages (memory old) kind a (register regs decoded.rs2)) (sym at) ∙ ap (page_of_access address) is in
+      let used : data_of decoded regs (memory old) ≡ page_number address ∷ [] = ap (λ c. class_data c decoded.rs1 decoded.rs2 decoded.immediate regs (memory old)) class ∙ whole in
+      let stored : stores_of decoded regs (memory old) ≡ page_number address ∷ [] = ap (λ c. class_stores c decoded.rs1 decoded.rs2 decoded.immediate regs (memory old)) class ∙ whole in
+      record {
+        used = subst (All (IsServed serves old)) (sym used) (all_front (IsServed serves old) (page_number address) [] (access.Store, served) (all_none (IsServed serves old)));
+        stored = subst (All (serves old access.Store)) (sym stored) (all_front (serves old access.Store) (page_number address) [] served (all_none (serves old access.Store)));
+        stayed = kept;
+      }

@@ -1,5 +1,5 @@
 -- What a decoded instruction does, by classes, and the line of the instruction table that it is.
-use Rattle.std.specs.Prelude.{◌≡◌, ◌<◌, ◌≤◌, ℕ, ◌%◌, Bool, true, false}
+use Rattle.std.specs.Prelude.{◌≡◌, ◌<◌, ◌≤◌, ℕ, ◌%◌, Bool, true, false, List, []}
 use Rattle.page_memory.specs.Memory.{Memory}
 use Rattle.rv_isa.specs.declared.kinds.BranchKind.{BranchKind}
 use Rattle.rv_isa.specs.declared.kinds.LoadKind.{LoadKind}
@@ -16,6 +16,7 @@ use Rattle.rv_isa.specs.declared.kinds.OpKind.TheVariants as op
 use Rattle.rv_exec.specs.Arithmetic.{word_sum, even, result_of, immediate_operation, shift_operation, is_taken}
 use Rattle.rv_exec.specs.Registers.{Registers, register, with_register, with_pc, next_pc}
 use Rattle.rv_exec.specs.Line.{Line, Next, Call, computed, jumped, load_line, store_line}
+use Rattle.rv_exec.specs.Uses.{load_pages, store_pages}
 use Rattle.decoded_pages.specs.declared.operation.Operation.{Operation}
 use Rattle.decoded_pages.specs.declared.operation.Operation.TheVariants as operation
 use Rattle.decoded_pages.specs.declared.instruction.DecodedInstruction.{DecodedInstruction}
@@ -121,6 +122,28 @@ class_line (Operates kind) rd rs1 rs2 immediate start regs memory =
 unfoldable pub decoded_as : DecodedInstruction → ℕ → Registers → Memory → Line
 decoded_as instruction start regs memory =
     class_line (class_of instruction.operation) instruction.rd instruction.rs1 instruction.rs2 instruction.immediate start regs memory
+
+-- the pages that an instruction of a class loads from or stores to
+abbrev pub class_data : Class → (rs1 rs2 immediate : ℕ) → Registers → Memory → List ℕ
+class_data (Loads kind) rs1 rs2 immediate regs memory = load_pages memory kind (word_sum (register regs rs1) immediate)
+class_data (Stores kind) rs1 rs2 immediate regs memory =
+    store_pages memory kind (word_sum (register regs rs1) immediate) (register regs rs2)
+class_data _ rs1 rs2 immediate regs memory = []
+
+-- those among them that it stores to
+abbrev pub class_stores : Class → (rs1 rs2 immediate : ℕ) → Registers → Memory → List ℕ
+class_stores (Stores kind) rs1 rs2 immediate regs memory =
+    store_pages memory kind (word_sum (register regs rs1) immediate) (register regs rs2)
+class_stores _ rs1 rs2 immediate regs memory = []
+
+-- the same of a decoded instruction
+unfoldable pub data_of : DecodedInstruction → Registers → Memory → List ℕ
+data_of instruction regs memory =
+    class_data (class_of instruction.operation) instruction.rs1 instruction.rs2 instruction.immediate regs memory
+
+unfoldable pub stores_of : DecodedInstruction → Registers → Memory → List ℕ
+stores_of instruction regs memory =
+    class_stores (class_of instruction.operation) instruction.rs1 instruction.rs2 instruction.immediate regs memory
 
 -- a fact of what is run without its word
 abbrev pub OfClass : Class → Type 0 → Type 0

@@ -6,7 +6,7 @@ ghost use Rattle.decoded_pages.specs.Classes.{class_of, HasAligned, Undecoded, C
 ghost use Rattle.decoded_pages.specs.Classes.{Constant, Links, Jumps, LinksRegister};
 ghost use Rattle.decoded_pages.specs.Classes.{JumpsRegister, Branches, Loads, Stores};
 ghost use Rattle.decoded_pages.specs.Classes.{WithImmediate, Shifts, Operates};
-ghost use Rattle.decoded_pages.specs.Following.{Performs, Stays};
+ghost use Rattle.decoded_pages.specs.Following.{Performs, Reaches, Stays};
 
 use crate::instruction::DecodedInstruction;
 use crate::operation::Operation;
@@ -43,6 +43,8 @@ pub fn perform<M: ReadyMemory>(
     requires aligned { HasAligned (class_of decoded.now.operation) decoded.now.immediate }
     ensures performed { Performs decoded.now start place result regs.old regs.new
         (M.memory memory.old) (M.memory memory.new) }
+    ensures reached { Reaches M.memory M.serves M.stays decoded.now result regs.old
+        memory.old memory.new }
     ensures kept { Stays result (memory.new ≡ memory.old) }
 {
     match decoded.operation {
@@ -260,6 +262,8 @@ fn load<M: ReadyMemory>(
     requires class { class_of decoded.now.operation ≡ Loads kind }
     ensures performed { (start place : ℕ) → Performs decoded.now start place result regs.old
         regs.new (M.memory memory.old) (M.memory memory.new) }
+    ensures reached { Reaches M.memory M.serves M.stays decoded.now result regs.old
+        memory.old memory.new }
     ensures kept { Stays result (memory.new ≡ memory.old) }
 {
     let address = add(regs.read(decoded.rs1), decoded.immediate);
@@ -284,6 +288,8 @@ fn store<M: ReadyMemory>(
     requires class { class_of decoded.now.operation ≡ Stores kind }
     ensures performed { (start place : ℕ) → Performs decoded.now start place result regs.old
         regs.new (M.memory memory.old) (M.memory memory.new) }
+    ensures reached { Reaches M.memory M.serves M.stays decoded.now result regs.old
+        memory.old memory.new }
     ensures kept { Stays result (memory.new ≡ memory.old) }
 {
     let address = add(regs.read(decoded.rs1), decoded.immediate);

@@ -1,6 +1,8 @@
 //! Decoded instructions one after another.
 
 ghost use Rattle.std.specs.Prelude.{◌≡◌, ◌≤◌, ◌<◌, ◌-◌, ◌*◌, ◌+◌, slice_index_or};
+ghost use Rattle.page_memory.specs.declared.words.Access.{Access};
+ghost use Rattle.page_memory.specs.Words.{page_number};
 ghost use Rattle.rv_exec.specs.Arithmetic.{word_sum};
 ghost use Rattle.rv_exec.specs.Registers.{with_pc};
 ghost use Rattle.decoded_pages.specs.Code.{Shows, ShowsAll};
@@ -32,6 +34,8 @@ pub enum RunEnd {
     Word,
     /// The next instruction is in no decoded page.
     NoPage,
+    /// The page of the next instruction is not at hand.
+    NotAtHand,
 }
 
 /// Runs decoded instructions, up to so many, as long as all that they use is at hand.
@@ -45,8 +49,8 @@ pub fn run_decoded<M: ReadyMemory>(
 ) -> Ran
     requires shows { ShowsAll pages.now (M.memory memory.old) }
     ensures within { result.left ≤ most }
-    ensures ran { Iterates (Steps M.memory) (most - result.left) (with_pc regs.old pc, memory.old)
-        (with_pc regs.new result.pc, memory.new) }
+    ensures ran { Iterates (Steps M.memory M.serves M.stays) (most - result.left)
+        (with_pc regs.old pc, memory.old) (with_pc regs.new result.pc, memory.new) }
 {
     let mut pc = pc;
     let mut left = most;
@@ -63,6 +67,13 @@ pub fn run_decoded<M: ReadyMemory>(
                 pc,
                 left,
                 end: RunEnd::Word,
+            };
+        }
+        if !memory.ready_fetch(pc) {
+            return Ran {
+                pc,
+                left,
+                end: RunEnd::NotAtHand,
             };
         }
         let ran = run_in_page(regs, memory, page, pc % 4096 / 4, left);
@@ -89,9 +100,10 @@ fn run_in_page<M: ReadyMemory>(
     most: u32,
 ) -> Ran
     requires shows { Shows page.now (M.memory memory.old) }
+    requires served { M.serves memory.old Access.Fetch (page_number page.now.start) }
     requires from { from < 1024 }
     ensures within { result.left ≤ most }
-    ensures ran { Iterates (Steps M.memory) (most - result.left)
+    ensures ran { Iterates (Steps M.memory M.serves M.stays) (most - result.left)
         (with_pc regs.old (word_sum page.now.start (from * 4)), memory.old)
         (with_pc regs.new result.pc, memory.new) }
 {
@@ -113,9 +125,10 @@ fn run_page<M: ReadyMemory>(
     most: u32,
 ) -> Ran
     requires shows { Shows page.now (M.memory memory.old) }
+    requires served { M.serves memory.old Access.Fetch (page_number page.now.start) }
     requires from { from < 1024 }
     ensures within { result.left ≤ most }
-    ensures ran { Iterates (Steps M.memory) (most - result.left)
+    ensures ran { Iterates (Steps M.memory M.serves M.stays) (most - result.left)
         (with_pc regs.old (word_sum page.now.start (from * 4)), memory.old)
         (with_pc regs.new result.pc, memory.new) }
 {
@@ -166,10 +179,11 @@ fn run_lines<M: ReadyMemory>(
     most: u32,
 ) -> Ran
     requires shows { Shows page.now (M.memory memory.old) }
+    requires served { M.serves memory.old Access.Fetch (page_number page.now.start) }
     requires from { from < 1024 }
     requires line { slice_index_or page.now.ends.items from 0 ≤ from + most }
     ensures within { result.left ≤ most }
-    ensures ran { Iterates (Steps M.memory) (most - result.left)
+    ensures ran { Iterates (Steps M.memory M.serves M.stays) (most - result.left)
         (with_pc regs.old (word_sum page.now.start (from * 4)), memory.old)
         (with_pc regs.new result.pc, memory.new) }
 {

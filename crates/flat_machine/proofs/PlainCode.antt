@@ -2,6 +2,7 @@
 use Rattle.std.proofs.Common.{◌≡◌, ◌≤◌, ◌-◌, ℕ, zero, suc, ◌+◌, ◌==◌, nat_lt, length, take, Bool, true, false, List, Option, Some, None, option_and_then, Result, Ok, Err, ap, ◌∙◌, refl, sym, subst, arith, if◌then◌else◌}
 use Rattle.std.proofs.lemmas.Option.{none-some}
 use Rattle.page_memory.specs.declared.fault.MemoryFault.{MemoryFault}
+use Rattle.page_memory.specs.declared.words.Access.{Access}
 use Rattle.page_memory.specs.Memory.{Memory, copied_in, copied_out}
 use Rattle.page_memory.specs.ReadOnly.{KeepsReadOnly}
 use Rattle.page_memory.proofs.KeptPages.{kept_itself, kept_on, copied_keeps, zeroed_keeps}
@@ -140,11 +141,11 @@ pub plain_on : (hart n m : ℕ) (first : Registers) (old : Memory) (regs : Regis
     → plain_run hart n first old ≡ Some (regs, now) → plain_run hart m regs now ≡ Some (regs', now') → plain_run hart (n + m) first old ≡ Some (regs', now')
 plain_on hart n m first old regs now regs' now' before later = added hart n m first old regs now before ∙ later
 
--- steps one after another are a plain run
-pub iterated : (hart n : ℕ) (a b : Registers × Memory) → Iterates (Steps {B = Memory} (λ m. m)) n a b → plain_run hart n a.0 a.1 ≡ Some b
+-- steps one after another are a plain run, whatever is at hand
+pub iterated : (serves : Memory → Access → ℕ → Type 0) (stays : Memory → Memory → Type 0) (hart n : ℕ) (a b : Registers × Memory) → Iterates (Steps {B = Memory} (λ m. m) serves stays) n a b → plain_run hart n a.0 a.1 ≡ Some b
 unfolding Iterates plain_run
-iterated hart zero a b same = ap Some (sym same)
-iterated hart (suc n) a b run = ap (option_and_then (plain_step hart)) (iterated hart n a run.0 run.1.0) ∙ ap left_by (run.1.1.its_line hart)
+iterated serves stays hart zero a b same = ap Some (sym same)
+iterated serves stays hart (suc n) a b run = ap (option_and_then (plain_step hart)) (iterated serves stays hart n a run.0 run.1.0) ∙ ap left_by (run.1.1.its_line hart)
 
 -- ---- the parts of a run
 

@@ -142,7 +142,7 @@ fn by_words(ran: Ran) -> u64
         return left;
     }
     match ran.end {
-        RunEnd::Page | RunEnd::Word => 1,
+        RunEnd::Page | RunEnd::Word | RunEnd::NotAtHand => 1,
         RunEnd::NoPage if left < UNDECODED => left,
         RunEnd::NoPage => UNDECODED,
     }

@@ -9,20 +9,20 @@ loop-left-init g c =
     let none : 0 ≡ c.args.most - c.args.most = omega arith in
     record {
       within = omega arith;
-      ran = subst (λ n. Iterates (Steps g.M.ReadyMemory.memory) n (with_pc c.args.regs.now c.args.pc, c.args.memory.now) (with_pc c.args.regs.now c.args.pc, c.args.memory.now))
-          none (no_step (Steps g.M.ReadyMemory.memory) (with_pc c.args.regs.now c.args.pc, c.args.memory.now));
+      ran = subst (λ n. Iterates (Steps g.M.ReadyMemory.memory g.M.ReadyMemory.serves g.M.ReadyMemory.stays) n (with_pc c.args.regs.now c.args.pc, c.args.memory.now) (with_pc c.args.regs.now c.args.pc, c.args.memory.now))
+          none (no_step (Steps g.M.ReadyMemory.memory g.M.ReadyMemory.serves g.M.ReadyMemory.stays) (with_pc c.args.regs.now c.args.pc, c.args.memory.now));
     }
 
 pub run_in_page-ran-requires-clause-shows : goal.run_in_page-ran-requires-clause-shows
 run_in_page-ran-requires-clause-shows g c =
-    c.in-Some.ensures.shows (g.M.ReadyMemory.memory c.loop-left.memory) (all_shown_along g.M.ReadyMemory.memory c.args.pages.now _ _ _ c.loop-left.invariant.ran c.requires.shows)
+    c.in-Some.ensures.shows (g.M.ReadyMemory.memory c.loop-left.memory) (all_shown_along g.M.ReadyMemory.memory g.M.ReadyMemory.serves g.M.ReadyMemory.stays c.args.pages.now _ _ _ c.loop-left.invariant.ran c.requires.shows)
 
 pub returns-then-ran-left-clause-ran : goal.returns-then-ran-left-clause-ran
 returns-then-ran-left-clause-ran g c =
     let l = c.loop-left in
     let run = c.run_in_page-ran in
     let sum : c.args.most - l.left + (l.left - run.result.left) ≡ c.args.most - run.result.left = omega (arith, l.invariant.within, run.ensures.within) in
-    page_ran g.M.ReadyMemory.memory (with_pc c.args.regs.now c.args.pc, c.args.memory.now) l.regs run.new.regs l.memory run.new.memory (c.args.most - l.left) (l.left - run.result.left) (c.args.most - run.result.left) l.pc run.result.pc c.in-Some.page.now.start
+    page_ran (Steps g.M.ReadyMemory.memory g.M.ReadyMemory.serves g.M.ReadyMemory.stays) (with_pc c.args.regs.now c.args.pc, c.args.memory.now) l.regs run.new.regs l.memory run.new.memory (c.args.most - l.left) (l.left - run.result.left) (c.args.most - run.result.left) l.pc run.result.pc c.in-Some.page.now.start
     (let fits = l.auto.pc-fits in omega (arith, fits)) c.if-pc-ne0.false c.in-Some.ensures.start sum l.invariant.ran run.ensures.ran
 
 pub loop-left-preserved : goal.loop-left-preserved
@@ -32,6 +32,6 @@ loop-left-preserved g c =
     let sum : c.args.most - l.left + (l.left - run.result.left) ≡ c.args.most - run.result.left = omega (arith, l.invariant.within, run.ensures.within) in
     record {
       within = omega (arith, l.invariant.within, run.ensures.within);
-      ran = page_ran g.M.ReadyMemory.memory (with_pc c.args.regs.now c.args.pc, c.args.memory.now) l.regs run.new.regs l.memory run.new.memory (c.args.most - l.left) (l.left - run.result.left) (c.args.most - run.result.left) l.pc run.result.pc c.in-Some.page.now.start
+      ran = page_ran (Steps g.M.ReadyMemory.memory g.M.ReadyMemory.serves g.M.ReadyMemory.stays) (with_pc c.args.regs.now c.args.pc, c.args.memory.now) l.regs run.new.regs l.memory run.new.memory (c.args.most - l.left) (l.left - run.result.left) (c.args.most - run.result.left) l.pc run.result.pc c.in-Some.page.now.start
           (let fits = l.auto.pc-fits in omega (arith, fits)) c.if-pc-ne0.false c.in-Some.ensures.start sum l.invariant.ran run.ensures.ran;
     }

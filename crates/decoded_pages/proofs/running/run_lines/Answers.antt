@@ -1,4 +1,6 @@
 use Rattle.std.proofs.Common.{◌≡◌, ◌+◌, ◌-◌, ◌*◌, ◌/◌, slice_index_or, ap, ◌∙◌, subst, arith}
+use Rattle.page_memory.specs.declared.words.Access.TheVariants.{Fetch}
+use Rattle.page_memory.specs.Words.{page_number}
 use Rattle.rv_exec.specs.Arithmetic.{word_sum}
 use Rattle.rv_exec.specs.Registers.{with_pc}
 use Rattle.decoded_pages.specs.Running.{Iterates, Steps}
@@ -13,15 +15,16 @@ loop-place-init g c =
       within = omega arith;
       most = omega arith;
       line = (let line = c.requires.line in omega (arith, line));
-      ran = subst (λ n. Iterates (Steps g.M.ReadyMemory.memory) n (with_pc c.args.regs.now (word_sum c.args.page.now.start (c.args.from * 4)), c.args.memory.now) (with_pc c.args.regs.now (word_sum c.args.page.now.start (c.args.from * 4)), c.args.memory.now))
-          none (no_step (Steps g.M.ReadyMemory.memory) (with_pc c.args.regs.now (word_sum c.args.page.now.start (c.args.from * 4)), c.args.memory.now));
+      served = c.requires.served;
+      ran = subst (λ n. Iterates (Steps g.M.ReadyMemory.memory g.M.ReadyMemory.serves g.M.ReadyMemory.stays) n (with_pc c.args.regs.now (word_sum c.args.page.now.start (c.args.from * 4)), c.args.memory.now) (with_pc c.args.regs.now (word_sum c.args.page.now.start (c.args.from * 4)), c.args.memory.now))
+          none (no_step (Steps g.M.ReadyMemory.memory g.M.ReadyMemory.serves g.M.ReadyMemory.stays) (with_pc c.args.regs.now (word_sum c.args.page.now.start (c.args.from * 4)), c.args.memory.now));
     }
 
 pub perform-requires-clause-aligned : goal.perform-requires-clause-aligned
 perform-requires-clause-aligned g c =
     let l = c.loop-place in
     let decoded = c.index-instructions-place.result in
-    let shows = shown_along g.M.ReadyMemory.memory c.args.page.now _ _ _ l.invariant.ran c.requires.shows in
+    let shows = shown_along g.M.ReadyMemory.memory g.M.ReadyMemory.serves g.M.ReadyMemory.stays c.args.page.now _ _ _ l.invariant.ran c.requires.shows in
     aligned_at c.args.page.now (g.M.ReadyMemory.memory l.memory) l.place decoded shows l.invariant.place
     (c.index-instructions-place.is ∙ ap (λ items. slice_index_or items l.place decoded) c.as_slice-instructions.ensures.value)
 
@@ -31,7 +34,9 @@ loop-place-smaller-in-Next g c =
     let page = c.args.page.now in
     let decoded = c.index-instructions-place.result in
     let memory = g.M.ReadyMemory.memory in
-    let shows = shown_along memory page _ _ _ l.invariant.ran c.requires.shows in
+    let serves = g.M.ReadyMemory.serves in
+    let stays = g.M.ReadyMemory.stays in
+    let shows = shown_along memory serves stays page _ _ _ l.invariant.ran c.requires.shows in
     let at : decoded ≡ slice_index_or page.instructions.items l.place decoded = c.index-instructions-place.is ∙ ap (λ items. slice_index_or items l.place decoded) c.as_slice-instructions.ensures.value in
     let both = next_in_line memory page l.memory c.perform.new.memory l.place decoded l.regs c.perform.new.regs l.limit shows l.invariant.place at c.in-Next.ensures.performed l.invariant.line in
     let less = both.0 in
@@ -43,7 +48,9 @@ loop-place-preserved-in-Next g c =
     let page = c.args.page.now in
     let decoded = c.index-instructions-place.result in
     let memory = g.M.ReadyMemory.memory in
-    let shows = shown_along memory page _ _ _ l.invariant.ran c.requires.shows in
+    let serves = g.M.ReadyMemory.serves in
+    let stays = g.M.ReadyMemory.stays in
+    let shows = shown_along memory serves stays page _ _ _ l.invariant.ran c.requires.shows in
     let at : decoded ≡ slice_index_or page.instructions.items l.place decoded = c.index-instructions-place.is ∙ ap (λ items. slice_index_or items l.place decoded) c.as_slice-instructions.ensures.value in
     let both = next_in_line memory page l.memory c.perform.new.memory l.place decoded l.regs c.perform.new.regs l.limit shows l.invariant.place at c.in-Next.ensures.performed l.invariant.line in
     let less = both.0 in
@@ -54,9 +61,10 @@ loop-place-preserved-in-Next g c =
       within = omega (arith, less);
       most = omega (arith, l.invariant.most);
       line = both.1;
-      ran = subst (λ n. Iterates (Steps memory) n (with_pc c.args.regs.now (word_sum page.start (c.args.from * 4)), c.args.memory.now) (with_pc c.perform.new.regs (word_sum page.start ((l.place + 1) * 4)), c.perform.new.memory))
-          one (one_more (Steps memory) (c.args.most - (l.limit - l.place)) (with_pc c.args.regs.now (word_sum page.start (c.args.from * 4)), c.args.memory.now) (with_pc l.regs (word_sum page.start (l.place * 4)), l.memory) (with_pc c.perform.new.regs (word_sum page.start ((l.place + 1) * 4)), c.perform.new.memory) l.invariant.ran
-          (next_step memory page l.memory c.perform.new.memory l.place decoded l.regs c.perform.new.regs shows l.invariant.place shows.decoded.small at c.in-Next.ensures.performed));
+      served = g.met.M.ReadyMemory.serves_on l.memory c.perform.new.memory Fetch (page_number page.start) c.in-Next.ensures.reached.stayed l.invariant.served;
+      ran = subst (λ n. Iterates (Steps memory serves stays) n (with_pc c.args.regs.now (word_sum page.start (c.args.from * 4)), c.args.memory.now) (with_pc c.perform.new.regs (word_sum page.start ((l.place + 1) * 4)), c.perform.new.memory))
+          one (one_more (Steps memory serves stays) (c.args.most - (l.limit - l.place)) (with_pc c.args.regs.now (word_sum page.start (c.args.from * 4)), c.args.memory.now) (with_pc l.regs (word_sum page.start (l.place * 4)), l.memory) (with_pc c.perform.new.regs (word_sum page.start ((l.place + 1) * 4)), c.perform.new.memory) l.invariant.ran
+          (next_step memory serves stays page l.memory c.perform.new.memory l.place decoded l.regs c.perform.new.regs shows l.invariant.place shows.decoded.small at l.invariant.served c.in-Next.ensures.performed c.in-Next.ensures.reached));
     }
 
 pub overflow_sub-left-in-To : goal.overflow_sub-left-in-To
@@ -65,7 +73,9 @@ overflow_sub-left-in-To g c =
     let page = c.args.page.now in
     let decoded = c.index-instructions-place.result in
     let memory = g.M.ReadyMemory.memory in
-    let shows = shown_along memory page _ _ _ l.invariant.ran c.requires.shows in
+    let serves = g.M.ReadyMemory.serves in
+    let stays = g.M.ReadyMemory.stays in
+    let shows = shown_along memory serves stays page _ _ _ l.invariant.ran c.requires.shows in
     let at : decoded ≡ slice_index_or page.instructions.items l.place decoded = c.index-instructions-place.is ∙ ap (λ items. slice_index_or items l.place decoded) c.as_slice-instructions.ensures.value in
     let less = to_in_line memory page l.memory c.perform.new.memory l.place decoded l.regs c.perform.new.regs l.limit c.in-To.relative shows l.invariant.place at c.in-To.ensures.performed l.invariant.line in
     omega (arith, less)
@@ -76,12 +86,14 @@ returns-then-relative-ge4096-clause-ran g c =
     let page = c.args.page.now in
     let decoded = c.index-instructions-place.result in
     let memory = g.M.ReadyMemory.memory in
-    let shows = shown_along memory page _ _ _ l.invariant.ran c.requires.shows in
+    let serves = g.M.ReadyMemory.serves in
+    let stays = g.M.ReadyMemory.stays in
+    let shows = shown_along memory serves stays page _ _ _ l.invariant.ran c.requires.shows in
     let at : decoded ≡ slice_index_or page.instructions.items l.place decoded = c.index-instructions-place.is ∙ ap (λ items. slice_index_or items l.place decoded) c.as_slice-instructions.ensures.value in
     let less = to_in_line memory page l.memory c.perform.new.memory l.place decoded l.regs c.perform.new.regs l.limit c.in-To.relative shows l.invariant.place at c.in-To.ensures.performed l.invariant.line in
     let one : c.args.most - (l.limit - l.place) + 1 ≡ c.args.most - (l.limit - l.place - 1) = omega (arith, less, l.invariant.most) in
-    went_further memory page l.memory c.perform.new.memory l.place decoded l.regs c.perform.new.regs c.in-To.relative (c.args.most - (l.limit - l.place)) (c.args.most - (l.limit - l.place - 1)) c.add.result _ one l.invariant.ran
-    (to_step memory page l.memory c.perform.new.memory l.place decoded l.regs c.perform.new.regs c.in-To.relative shows l.invariant.place shows.decoded.small at c.in-To.ensures.performed) c.add.ensures
+    went_further (Steps memory serves stays) page l.memory c.perform.new.memory l.place decoded l.regs c.perform.new.regs c.in-To.relative (c.args.most - (l.limit - l.place)) (c.args.most - (l.limit - l.place - 1)) c.add.result _ one l.invariant.ran
+    (to_step memory serves stays page l.memory c.perform.new.memory l.place decoded l.regs c.perform.new.regs c.in-To.relative shows l.invariant.place shows.decoded.small at l.invariant.served c.in-To.ensures.performed c.in-To.ensures.reached) c.add.ensures
 
 pub returns-then-limit-ends-clause-ran : goal.returns-then-limit-ends-clause-ran
 returns-then-limit-ends-clause-ran g c =
@@ -89,12 +101,14 @@ returns-then-limit-ends-clause-ran g c =
     let page = c.args.page.now in
     let decoded = c.index-instructions-place.result in
     let memory = g.M.ReadyMemory.memory in
-    let shows = shown_along memory page _ _ _ l.invariant.ran c.requires.shows in
+    let serves = g.M.ReadyMemory.serves in
+    let stays = g.M.ReadyMemory.stays in
+    let shows = shown_along memory serves stays page _ _ _ l.invariant.ran c.requires.shows in
     let at : decoded ≡ slice_index_or page.instructions.items l.place decoded = c.index-instructions-place.is ∙ ap (λ items. slice_index_or items l.place decoded) c.as_slice-instructions.ensures.value in
     let less = to_in_line memory page l.memory c.perform.new.memory l.place decoded l.regs c.perform.new.regs l.limit c.in-To.relative shows l.invariant.place at c.in-To.ensures.performed l.invariant.line in
     let one : c.args.most - (l.limit - l.place) + 1 ≡ c.args.most - (l.limit - l.place - 1) = omega (arith, less, l.invariant.most) in
-    went_further memory page l.memory c.perform.new.memory l.place decoded l.regs c.perform.new.regs c.in-To.relative (c.args.most - (l.limit - l.place)) (c.args.most - (l.limit - l.place - 1)) c.add-then-limit-ends.result _ one l.invariant.ran
-    (to_step memory page l.memory c.perform.new.memory l.place decoded l.regs c.perform.new.regs c.in-To.relative shows l.invariant.place shows.decoded.small at c.in-To.ensures.performed) c.add-then-limit-ends.ensures
+    went_further (Steps memory serves stays) page l.memory c.perform.new.memory l.place decoded l.regs c.perform.new.regs c.in-To.relative (c.args.most - (l.limit - l.place)) (c.args.most - (l.limit - l.place - 1)) c.add-then-limit-ends.result _ one l.invariant.ran
+    (to_step memory serves stays page l.memory c.perform.new.memory l.place decoded l.regs c.perform.new.regs c.in-To.relative shows l.invariant.place shows.decoded.small at l.invariant.served c.in-To.ensures.performed c.in-To.ensures.reached) c.add-then-limit-ends.ensures
 
 pub loop-place-smaller : goal.loop-place-smaller
 loop-place-smaller g c =
@@ -102,7 +116,9 @@ loop-place-smaller g c =
     let page = c.args.page.now in
     let decoded = c.index-instructions-place.result in
     let memory = g.M.ReadyMemory.memory in
-    let shows = shown_along memory page _ _ _ l.invariant.ran c.requires.shows in
+    let serves = g.M.ReadyMemory.serves in
+    let stays = g.M.ReadyMemory.stays in
+    let shows = shown_along memory serves stays page _ _ _ l.invariant.ran c.requires.shows in
     let at : decoded ≡ slice_index_or page.instructions.items l.place decoded = c.index-instructions-place.is ∙ ap (λ items. slice_index_or items l.place decoded) c.as_slice-instructions.ensures.value in
     let less = to_in_line memory page l.memory c.perform.new.memory l.place decoded l.regs c.perform.new.regs l.limit c.in-To.relative shows l.invariant.place at c.in-To.ensures.performed l.invariant.line in
     omega (arith, less)
@@ -113,7 +129,9 @@ loop-place-preserved g c =
     let page = c.args.page.now in
     let decoded = c.index-instructions-place.result in
     let memory = g.M.ReadyMemory.memory in
-    let shows = shown_along memory page _ _ _ l.invariant.ran c.requires.shows in
+    let serves = g.M.ReadyMemory.serves in
+    let stays = g.M.ReadyMemory.stays in
+    let shows = shown_along memory serves stays page _ _ _ l.invariant.ran c.requires.shows in
     let at : decoded ≡ slice_index_or page.instructions.items l.place decoded = c.index-instructions-place.is ∙ ap (λ items. slice_index_or items l.place decoded) c.as_slice-instructions.ensures.value in
     let less = to_in_line memory page l.memory c.perform.new.memory l.place decoded l.regs c.perform.new.regs l.limit c.in-To.relative shows l.invariant.place at c.in-To.ensures.performed l.invariant.line in
     let even = to_aligned memory page l.memory c.perform.new.memory l.place decoded l.regs c.perform.new.regs c.in-To.relative shows l.invariant.place at c.in-To.ensures.performed in
@@ -126,7 +144,8 @@ loop-place-preserved g c =
       within = omega arith;
       most = omega (arith, l.invariant.most);
       line = omega (arith, end, fits);
-      ran = went_further memory page l.memory c.perform.new.memory l.place decoded l.regs c.perform.new.regs c.in-To.relative (c.args.most - (l.limit - l.place)) (c.args.most - (c.in-To.relative / 4 + (l.limit - l.place - 1) - c.in-To.relative / 4)) (word_sum page.start (c.in-To.relative / 4 * 4)) _ one l.invariant.ran
-          (to_step memory page l.memory c.perform.new.memory l.place decoded l.regs c.perform.new.regs c.in-To.relative shows l.invariant.place shows.decoded.small at c.in-To.ensures.performed)
+      served = g.met.M.ReadyMemory.serves_on l.memory c.perform.new.memory Fetch (page_number page.start) c.in-To.ensures.reached.stayed l.invariant.served;
+      ran = went_further (Steps memory serves stays) page l.memory c.perform.new.memory l.place decoded l.regs c.perform.new.regs c.in-To.relative (c.args.most - (l.limit - l.place)) (c.args.most - (c.in-To.relative / 4 + (l.limit - l.place - 1) - c.in-To.relative / 4)) (word_sum page.start (c.in-To.relative / 4 * 4)) _ one l.invariant.ran
+          (to_step memory serves stays page l.memory c.perform.new.memory l.place decoded l.regs c.perform.new.regs c.in-To.relative shows l.invariant.place shows.decoded.small at l.invariant.served c.in-To.ensures.performed c.in-To.ensures.reached)
           (ap (word_sum page.start) (counted_back c.in-To.relative even));
     }

@@ -1,4 +1,6 @@
 use Rattle.std.proofs.Common.{◌-◌, ◌*◌, ◌≤◌, slice_index_or}
+use Rattle.page_memory.specs.declared.words.Access.TheVariants.{Fetch}
+use Rattle.page_memory.specs.Words.{page_number}
 use Rattle.rv_exec.specs.Arithmetic.{word_sum}
 use Rattle.rv_exec.specs.Registers.{with_pc}
 use Rattle.decoded_pages.specs.Running.{Iterates, Steps}
@@ -10,7 +12,8 @@ invariant-loop-place g l = record {
   within : l.place ≤ l.limit;
   most : l.limit - l.place ≤ l.most;
   line : slice_index_or l.page.ends.items l.place 0 ≤ l.limit;
-  ran : Iterates (Steps g.M.ReadyMemory.memory) (l.most - (l.limit - l.place)) (with_pc l.initial.regs (word_sum l.page.start (l.from * 4)), l.initial.memory)
+  served : g.M.ReadyMemory.serves l.memory Fetch (page_number l.page.start);
+  ran : Iterates (Steps g.M.ReadyMemory.memory g.M.ReadyMemory.serves g.M.ReadyMemory.stays) (l.most - (l.limit - l.place)) (with_pc l.initial.regs (word_sum l.page.start (l.from * 4)), l.initial.memory)
       (with_pc l.regs (word_sum l.page.start (l.place * 4)), l.memory);
 }
 

@@ -62,6 +62,12 @@ kept_along memory serves stays (suc n) a b run =
     kept_on (memory a.1) (memory run.0.1) (memory b.1) (kept_along memory serves stays n a run.0 run.1.0)
     (next_keeps 0 run.0.0 b.0 (memory run.0.1) (memory b.1) (run.1.1.its_line 0))
 
+-- what stays over each step does so over a run
+pub held_along : {B : Type 0} (memory : B → Memory) (serves : B → Access → ℕ → Type 0) (stays : B → B → Type 0) (P : B → Type 0) → ((old new : B) → stays old new → P old → P new) → (n : ℕ) (a b : Registers × B) → Iterates (Steps memory serves stays) n a b → P a.1 → P b.1
+unfolding Iterates
+held_along memory serves stays P on zero a b same held = subst (λ (s : Registers × _). P s.1) (sym same) held
+held_along memory serves stays P on (suc n) a b run held = on run.0.1 b.1 run.1.1.stayed (held_along memory serves stays P on n a run.0 run.1.0 held)
+
 both_rights : (store fetch : Bool) → (if store then false else fetch) ≡ true → (store ≡ false) × (fetch ≡ true)
 both_rights true fetch h = absurd (cc)
 both_rights false fetch h = (refl, h)

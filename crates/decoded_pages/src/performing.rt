@@ -32,19 +32,21 @@ pub enum After {
 #[inline(always)]
 #[tactic(auto, using(crate::proofs::Done::stays_anyhow))]
 pub fn perform<M: ReadyMemory>(
+    hart: u32,
     regs: &mut Regs,
     memory: &mut M,
     decoded: &DecodedInstruction,
     start: u32,
     place: usize,
 ) -> After
+    requires hart { M.admits hart memory.old }
     requires page { start % 4096 ≡ 0 }
     requires place { place ≤ 1024 }
     requires aligned { HasAligned (class_of decoded.now.operation) decoded.now.immediate }
     ensures performed { Performs decoded.now start place result regs.old regs.new
         (M.memory memory.old) (M.memory memory.new) }
-    ensures reached { Reaches M.memory M.serves M.stays decoded.now result regs.old
-        memory.old memory.new }
+    ensures reached { Reaches M.memory (M.serves hart) (M.stays hart) decoded.now result
+        regs.old memory.old memory.new }
     ensures kept { Stays result (memory.new ≡ memory.old) }
 {
     match decoded.operation {
@@ -62,14 +64,14 @@ pub fn perform<M: ReadyMemory>(
         Operation::Bge => branch(regs, decoded, BranchKind::Bge),
         Operation::Bltu => branch(regs, decoded, BranchKind::Bltu),
         Operation::Bgeu => branch(regs, decoded, BranchKind::Bgeu),
-        Operation::Lb => load(regs, memory, decoded, LoadKind::Lb),
-        Operation::Lh => load(regs, memory, decoded, LoadKind::Lh),
-        Operation::Lw => load(regs, memory, decoded, LoadKind::Lw),
-        Operation::Lbu => load(regs, memory, decoded, LoadKind::Lbu),
-        Operation::Lhu => load(regs, memory, decoded, LoadKind::Lhu),
-        Operation::Sb => store(regs, memory, decoded, StoreKind::Sb),
-        Operation::Sh => store(regs, memory, decoded, StoreKind::Sh),
-        Operation::Sw => store(regs, memory, decoded, StoreKind::Sw),
+        Operation::Lb => load(hart, regs, memory, decoded, LoadKind::Lb),
+        Operation::Lh => load(hart, regs, memory, decoded, LoadKind::Lh),
+        Operation::Lw => load(hart, regs, memory, decoded, LoadKind::Lw),
+        Operation::Lbu => load(hart, regs, memory, decoded, LoadKind::Lbu),
+        Operation::Lhu => load(hart, regs, memory, decoded, LoadKind::Lhu),
+        Operation::Sb => store(hart, regs, memory, decoded, StoreKind::Sb),
+        Operation::Sh => store(hart, regs, memory, decoded, StoreKind::Sh),
+        Operation::Sw => store(hart, regs, memory, decoded, StoreKind::Sw),
         Operation::Addi => with_immediate(regs, decoded, ImmediateKind::Addi),
         Operation::Slti => with_immediate(regs, decoded, ImmediateKind::Slti),
         Operation::Sltiu => with_immediate(regs, decoded, ImmediateKind::Sltiu),
@@ -254,20 +256,22 @@ fn operated(regs: &mut Regs, decoded: &DecodedInstruction, kind: OpKind) -> Afte
 #[inline(always)]
 #[tactic(auto, using(crate::proofs::Done::undone))]
 fn load<M: ReadyMemory>(
+    hart: u32,
     regs: &mut Regs,
     memory: &mut M,
     decoded: &DecodedInstruction,
     kind: LoadKind,
 ) -> After
+    requires hart { M.admits hart memory.old }
     requires class { class_of decoded.now.operation ≡ Loads kind }
     ensures performed { (start place : ℕ) → Performs decoded.now start place result regs.old
         regs.new (M.memory memory.old) (M.memory memory.new) }
-    ensures reached { Reaches M.memory M.serves M.stays decoded.now result regs.old
-        memory.old memory.new }
+    ensures reached { Reaches M.memory (M.serves hart) (M.stays hart) decoded.now result
+        regs.old memory.old memory.new }
     ensures kept { Stays result (memory.new ≡ memory.old) }
 {
     let address = add(regs.read(decoded.rs1), decoded.immediate);
-    match memory.ready_load(width_of_load(kind), address) {
+    match memory.ready_load(hart, width_of_load(kind), address) {
         Some(number) => {
             regs.put(decoded.rd.index(), extend(kind, number));
             After::Next
@@ -280,20 +284,22 @@ fn load<M: ReadyMemory>(
 #[inline(always)]
 #[tactic(auto, using(crate::proofs::Done::undone))]
 fn store<M: ReadyMemory>(
+    hart: u32,
     regs: &mut Regs,
     memory: &mut M,
     decoded: &DecodedInstruction,
     kind: StoreKind,
 ) -> After
+    requires hart { M.admits hart memory.old }
     requires class { class_of decoded.now.operation ≡ Stores kind }
     ensures performed { (start place : ℕ) → Performs decoded.now start place result regs.old
         regs.new (M.memory memory.old) (M.memory memory.new) }
-    ensures reached { Reaches M.memory M.serves M.stays decoded.now result regs.old
-        memory.old memory.new }
+    ensures reached { Reaches M.memory (M.serves hart) (M.stays hart) decoded.now result
+        regs.old memory.old memory.new }
     ensures kept { Stays result (memory.new ≡ memory.old) }
 {
     let address = add(regs.read(decoded.rs1), decoded.immediate);
-    if memory.ready_store(width_of_store(kind), address, regs.read(decoded.rs2)) {
+    if memory.ready_store(hart, width_of_store(kind), address, regs.read(decoded.rs2)) {
         After::Next
     } else {
         After::ByWord

@@ -41,15 +41,17 @@ pub enum RunEnd {
 /// Runs decoded instructions, up to so many, as long as all that they use is at hand.
 #[inline(always)]
 pub fn run_decoded<M: ReadyMemory>(
+    hart: u32,
     regs: &mut Regs,
     memory: &mut M,
     pages: &DecodedPages,
     pc: u32,
     most: u32,
 ) -> Ran
+    requires hart { M.admits hart memory.old }
     requires shows { ShowsAll pages.now (M.memory memory.old) }
     ensures within { result.left ≤ most }
-    ensures ran { Iterates (Steps M.memory M.serves M.stays) (most - result.left)
+    ensures ran { Iterates (Steps M.memory (M.serves hart) (M.stays hart)) (most - result.left)
         (with_pc regs.old pc, memory.old) (with_pc regs.new result.pc, memory.new) }
 {
     let mut pc = pc;
@@ -69,14 +71,14 @@ pub fn run_decoded<M: ReadyMemory>(
                 end: RunEnd::Word,
             };
         }
-        if !memory.ready_fetch(pc) {
+        if !memory.ready_fetch(hart, pc) {
             return Ran {
                 pc,
                 left,
                 end: RunEnd::NotAtHand,
             };
         }
-        let ran = run_in_page(regs, memory, page, pc % 4096 / 4, left);
+        let ran = run_in_page(hart, regs, memory, page, pc % 4096 / 4, left);
         if ran.left == left || ran.end == RunEnd::Word {
             return ran;
         }
@@ -93,42 +95,46 @@ pub fn run_decoded<M: ReadyMemory>(
 /// Runs decoded instructions of a page, from the one of a number on, up to so many.
 #[inline(always)]
 fn run_in_page<M: ReadyMemory>(
+    hart: u32,
     regs: &mut Regs,
     memory: &mut M,
     page: &DecodedPage,
     from: u32,
     most: u32,
 ) -> Ran
+    requires hart { M.admits hart memory.old }
     requires shows { Shows page.now (M.memory memory.old) }
-    requires served { M.serves memory.old Access.Fetch (page_number page.now.start) }
+    requires served { M.serves hart memory.old Access.Fetch (page_number page.now.start) }
     requires from { from < 1024 }
     ensures within { result.left ≤ most }
-    ensures ran { Iterates (Steps M.memory M.serves M.stays) (most - result.left)
+    ensures ran { Iterates (Steps M.memory (M.serves hart) (M.stays hart)) (most - result.left)
         (with_pc regs.old (word_sum page.now.start (from * 4)), memory.old)
         (with_pc regs.new result.pc, memory.new) }
 {
     let end = page.ends[from as usize];
     if u64::from(end) <= u64::from(from) + u64::from(most) {
-        run_lines(regs, memory, page, from, most)
+        run_lines(hart, regs, memory, page, from, most)
     } else {
-        run_page(regs, memory, page, from, most)
+        run_page(hart, regs, memory, page, from, most)
     }
 }
 
 /// The same where each instruction is counted.
 #[inline(always)]
 fn run_page<M: ReadyMemory>(
+    hart: u32,
     regs: &mut Regs,
     memory: &mut M,
     page: &DecodedPage,
     from: u32,
     most: u32,
 ) -> Ran
+    requires hart { M.admits hart memory.old }
     requires shows { Shows page.now (M.memory memory.old) }
-    requires served { M.serves memory.old Access.Fetch (page_number page.now.start) }
+    requires served { M.serves hart memory.old Access.Fetch (page_number page.now.start) }
     requires from { from < 1024 }
     ensures within { result.left ≤ most }
-    ensures ran { Iterates (Steps M.memory M.serves M.stays) (most - result.left)
+    ensures ran { Iterates (Steps M.memory (M.serves hart) (M.stays hart)) (most - result.left)
         (with_pc regs.old (word_sum page.now.start (from * 4)), memory.old)
         (with_pc regs.new result.pc, memory.new) }
 {
@@ -137,7 +143,7 @@ fn run_page<M: ReadyMemory>(
     let mut place = from as usize;
     let mut left = most;
     while left != 0 {
-        match perform(regs, memory, &instructions[place], start, place) {
+        match perform(hart, regs, memory, &instructions[place], start, place) {
             After::Next => {
                 place += 1;
                 left -= 1;
@@ -172,18 +178,20 @@ fn run_page<M: ReadyMemory>(
 /// The same where all of the straight line from there may be done: it ends before a line of which that does not hold.
 #[inline(always)]
 fn run_lines<M: ReadyMemory>(
+    hart: u32,
     regs: &mut Regs,
     memory: &mut M,
     page: &DecodedPage,
     from: u32,
     most: u32,
 ) -> Ran
+    requires hart { M.admits hart memory.old }
     requires shows { Shows page.now (M.memory memory.old) }
-    requires served { M.serves memory.old Access.Fetch (page_number page.now.start) }
+    requires served { M.serves hart memory.old Access.Fetch (page_number page.now.start) }
     requires from { from < 1024 }
     requires line { slice_index_or page.now.ends.items from 0 ≤ from + most }
     ensures within { result.left ≤ most }
-    ensures ran { Iterates (Steps M.memory M.serves M.stays) (most - result.left)
+    ensures ran { Iterates (Steps M.memory (M.serves hart) (M.stays hart)) (most - result.left)
         (with_pc regs.old (word_sum page.now.start (from * 4)), memory.old)
         (with_pc regs.new result.pc, memory.new) }
 {
@@ -194,7 +202,7 @@ fn run_lines<M: ReadyMemory>(
     // The number at which, on a straight line, all that were allowed are done.
     let mut limit = place + most as usize;
     loop {
-        match perform(regs, memory, &instructions[place], start, place) {
+        match perform(hart, regs, memory, &instructions[place], start, place) {
             After::Next => place += 1,
             After::To(relative) => {
                 let left = limit - place - 1;

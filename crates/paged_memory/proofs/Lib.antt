@@ -28,4 +28,5 @@ pub mod Marking
 pub mod Since
 pub mod WholeLaws
 pub mod BusLaws
+pub mod ReadyLaws
 pub mod HeldLaws

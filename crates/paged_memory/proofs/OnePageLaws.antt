@@ -37,7 +37,7 @@ module _ {S : Type 0} {hart page : ℕ} {access : Access} {pages : List (ℕ × 
 
 module _ {S : Type 0} (hart page : ℕ) (pages : List (ℕ × PageValue S)) (tables : List (List ℕ)) (caches : List (List Translation)) where
   -- nothing changes
-  keeps_itself : KeepsTranslations pages hart page tables tables caches caches
+  pub keeps_itself : KeepsTranslations pages hart page tables tables caches caches
   keeps_itself = record {
     harts = refl;
     others = λ h apart. refl;

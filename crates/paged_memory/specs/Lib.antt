@@ -6,6 +6,8 @@ pub mod Leaving
 pub mod Access
 pub mod OnePage
 pub mod Accesses
+pub mod Ready
+pub mod ReadyLaws
 pub mod Replies
 pub mod Counting
 pub mod CountingLaws

@@ -3,6 +3,7 @@
 ghost use Rattle.std.specs.Prelude.{◌≡◌, ◌↔◌, ℕ, ◌<◌, ◌^◌, ◌%◌, length, Some, None, IfSome, IfOk};
 ghost use Rattle.std.specs.Prelude.{IfErr, OnOk, true, OnErr};
 ghost use Rattle.page_memory.specs.Words.{page_number, page_offset, bytes_in};
+ghost use Rattle.page_memory.specs.declared.words.Access.{Access};
 ghost use Rattle.sv32_table.specs.Entry.{entry_of};
 ghost use Rattle.sv32_table.specs.EntryAt.{dirty_of, entry_at};
 ghost use Rattle.paged_memory.specs.Paged.{Holds, seen_at};
@@ -66,6 +67,29 @@ fn hit(caches: &Caches, hart: usize, access: Access, page: u32) -> Result<usize,
     match access {
         Access::Store if !entry.dirty => Err(Miss::Unfit),
         _ => Ok(entry.place),
+    }
+}
+
+/// Whether a page is at hand for a hart's fetches: its cache shows the page.
+#[inline]
+pub(crate) fn is_fetched_at_once<L: Ledger, S: SwapSlot>(
+    pages: &PageMap<StoredPage<L, S>>,
+    tables: &PageTables,
+    caches: &Caches,
+    hart: usize,
+    page: u32,
+) -> bool
+    requires hart { hart < length caches.now }
+    requires holds { Holds S.content S.honest pages.now tables.now caches.now }
+    ensures has { result ≡ true → HasPage pages.now (cache_of caches.now hart) page }
+    ensures marked { result ≡ true → MarksUse pages.now tables.now (cache_of caches.now hart)
+        Access.Fetch page }
+{
+    let _ = pages;
+    let _ = tables;
+    match hit(caches, hart, Access::Fetch, page) {
+        Ok(_) => true,
+        Err(_) => false,
     }
 }
 

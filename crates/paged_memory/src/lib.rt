@@ -17,6 +17,7 @@ mod harts;
 mod memory;
 mod peeking;
 mod reading;
+mod ready;
 mod reply;
 mod saving;
 mod status;

@@ -1,6 +1,8 @@
 //! Stores, atomic operations and copies into paged memory: to a page that is ready, else by cache or walk.
 
 ghost use Rattle.std.specs.Prelude.{◌≡◌, ◌+◌, ◌≤◌, ◌<◌, ◌%◌, length, is_some, Some, Ok, true};
+ghost use Rattle.std.specs.Prelude.{false};
+ghost use Rattle.paged_memory.specs.Access.{HasPage, KeepsBare, MarksUse, TakesStores, cache_of};
 ghost use Rattle.std.specs.Prelude.{ℕ, drop};
 ghost use Rattle.page_memory.specs.Words.{page_number, page_offset, bytes_in};
 ghost use Rattle.page_memory.specs.Pages.{overwritten, stored, replaced, copied_in};
@@ -117,6 +119,40 @@ pub(crate) fn store<L: Ledger, S: SwapSlot>(
             StoreReply::Misaligned => Err(BusError::Fault(MemoryFault::Misaligned)),
             StoreReply::PageFault => Err(BusError::Fault(MemoryFault::PageFault)),
         },
+    }
+}
+
+/// Stores the low bytes of a word in a page that is ready, and answers whether it was.
+#[inline(always)]
+#[tactic(auto, using(crate::proofs::HitLaws::reaches_takes))]
+pub(crate) fn store_ready<L: Ledger, S: SwapSlot>(
+    pages: &mut PageMap<StoredPage<L, S>>,
+    tables: &PageTables,
+    caches: &Caches,
+    hart: usize,
+    width: Width,
+    address: u32,
+    word: u32,
+) -> bool
+    requires hart { hart < length caches.now }
+    requires holds { Holds S.content S.honest pages.old tables.now caches.now }
+    ensures holds { Holds S.content S.honest pages.new tables.now caches.now }
+    ensures stored { result ≡ true → stored (flat_pages S.content pages.old) width address word ≡
+        Ok (flat_pages S.content pages.new) }
+    ensures has { result ≡ true → HasPage pages.old (cache_of caches.now hart)
+        (page_number address) }
+    ensures marked { result ≡ true → MarksUse pages.old tables.now (cache_of caches.now hart)
+        Access.Store (page_number address) }
+    ensures takes { result ≡ true → TakesStores pages.old tables.now (page_number address) }
+    ensures bare { result ≡ true → KeepsBare (page_number address) pages.old pages.new }
+    ensures other { result ≡ false → pages.new ≡ pages.old }
+{
+    match at_hand(pages, tables, caches, hart, Access::Store, width, address) {
+        Some(spot) => {
+            put_number_in(pages.at_mut(spot.place), width, spot.offset, word);
+            true
+        }
+        None => false,
     }
 }
 

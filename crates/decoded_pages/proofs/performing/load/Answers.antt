@@ -14,7 +14,7 @@ returns-in-Some-clause-performed g c = λ start place.
 
 pub returns-in-Some-clause-reached : goal.returns-in-Some-clause-reached
 returns-in-Some-clause-reached g c =
-    reached_load g.M.ReadyMemory.memory g.M.ReadyMemory.serves g.M.ReadyMemory.stays c.args.decoded.now c.args.kind c.add-address.result c.in-Some.number c.args.regs.now c.args.memory.now c.requires.class
+    reached_load g.M.ReadyMemory.memory (g.M.ReadyMemory.serves c.args.hart) (g.M.ReadyMemory.stays c.args.hart) c.args.decoded.now c.args.kind c.add-address.result c.in-Some.number c.args.regs.now c.args.memory.now c.requires.class
     (c.add-address.ensures ∙ ap (λ a. word_sum a c.args.decoded.now.immediate) c.read.ensures)
     (ap (λ w. loaded (g.M.ReadyMemory.memory c.args.memory.now) w c.add-address.result) (sym c.width_of_load.ensures) ∙ c.in-Some.ensures.value)
-    c.in-Some.ensures.served (g.met.M.ReadyMemory.stays_itself c.args.memory.now)
+    c.in-Some.ensures.served (g.met.M.ReadyMemory.stays_itself c.args.hart c.args.memory.now)

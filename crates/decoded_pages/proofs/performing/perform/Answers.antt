@@ -153,164 +153,164 @@ returns-in-Remu-clause-performed g c = c.operated-in-Remu.ensures c.args.start c
 
 pub returns-in-ByWord-clause-reached : goal.returns-in-ByWord-clause-reached
 returns-in-ByWord-clause-reached g c =
-    apart g.M.ReadyMemory.memory g.M.ReadyMemory.serves g.M.ReadyMemory.stays c.args.decoded.now _ c.args.regs.now c.args.memory.now (g.met.M.ReadyMemory.stays_itself c.args.memory.now) (ap (λ o. has_data (class_of o)) c.in-ByWord.is)
+    apart g.M.ReadyMemory.memory (g.M.ReadyMemory.serves c.args.hart) (g.M.ReadyMemory.stays c.args.hart) c.args.decoded.now _ c.args.regs.now c.args.memory.now (g.met.M.ReadyMemory.stays_itself c.args.hart c.args.memory.now) (ap (λ o. has_data (class_of o)) c.in-ByWord.is)
 
 pub returns-in-PageEnd-clause-reached : goal.returns-in-PageEnd-clause-reached
 returns-in-PageEnd-clause-reached g c =
-    apart g.M.ReadyMemory.memory g.M.ReadyMemory.serves g.M.ReadyMemory.stays c.args.decoded.now _ c.args.regs.now c.args.memory.now (g.met.M.ReadyMemory.stays_itself c.args.memory.now) (ap (λ o. has_data (class_of o)) c.in-PageEnd.is)
+    apart g.M.ReadyMemory.memory (g.M.ReadyMemory.serves c.args.hart) (g.M.ReadyMemory.stays c.args.hart) c.args.decoded.now _ c.args.regs.now c.args.memory.now (g.met.M.ReadyMemory.stays_itself c.args.hart c.args.memory.now) (ap (λ o. has_data (class_of o)) c.in-PageEnd.is)
 
 pub returns-in-Nothing-clause-reached : goal.returns-in-Nothing-clause-reached
 returns-in-Nothing-clause-reached g c =
-    apart g.M.ReadyMemory.memory g.M.ReadyMemory.serves g.M.ReadyMemory.stays c.args.decoded.now _ c.args.regs.now c.args.memory.now (g.met.M.ReadyMemory.stays_itself c.args.memory.now) (ap (λ o. has_data (class_of o)) c.in-Nothing.is)
+    apart g.M.ReadyMemory.memory (g.M.ReadyMemory.serves c.args.hart) (g.M.ReadyMemory.stays c.args.hart) c.args.decoded.now _ c.args.regs.now c.args.memory.now (g.met.M.ReadyMemory.stays_itself c.args.hart c.args.memory.now) (ap (λ o. has_data (class_of o)) c.in-Nothing.is)
 
 pub returns-in-Constant-clause-reached : goal.returns-in-Constant-clause-reached
 returns-in-Constant-clause-reached g c =
-    apart g.M.ReadyMemory.memory g.M.ReadyMemory.serves g.M.ReadyMemory.stays c.args.decoded.now _ c.args.regs.now c.args.memory.now (g.met.M.ReadyMemory.stays_itself c.args.memory.now) (ap (λ o. has_data (class_of o)) c.in-Constant.is)
+    apart g.M.ReadyMemory.memory (g.M.ReadyMemory.serves c.args.hart) (g.M.ReadyMemory.stays c.args.hart) c.args.decoded.now _ c.args.regs.now c.args.memory.now (g.met.M.ReadyMemory.stays_itself c.args.hart c.args.memory.now) (ap (λ o. has_data (class_of o)) c.in-Constant.is)
 
 pub returns-in-JumpAndLink-clause-reached : goal.returns-in-JumpAndLink-clause-reached
 returns-in-JumpAndLink-clause-reached g c =
-    apart g.M.ReadyMemory.memory g.M.ReadyMemory.serves g.M.ReadyMemory.stays c.args.decoded.now _ c.args.regs.now c.args.memory.now (g.met.M.ReadyMemory.stays_itself c.args.memory.now) (ap (λ o. has_data (class_of o)) c.in-JumpAndLink.is)
+    apart g.M.ReadyMemory.memory (g.M.ReadyMemory.serves c.args.hart) (g.M.ReadyMemory.stays c.args.hart) c.args.decoded.now _ c.args.regs.now c.args.memory.now (g.met.M.ReadyMemory.stays_itself c.args.hart c.args.memory.now) (ap (λ o. has_data (class_of o)) c.in-JumpAndLink.is)
 
 pub returns-in-Jump-clause-reached : goal.returns-in-Jump-clause-reached
 returns-in-Jump-clause-reached g c =
-    apart g.M.ReadyMemory.memory g.M.ReadyMemory.serves g.M.ReadyMemory.stays c.args.decoded.now _ c.args.regs.now c.args.memory.now (g.met.M.ReadyMemory.stays_itself c.args.memory.now) (ap (λ o. has_data (class_of o)) c.in-Jump.is)
+    apart g.M.ReadyMemory.memory (g.M.ReadyMemory.serves c.args.hart) (g.M.ReadyMemory.stays c.args.hart) c.args.decoded.now _ c.args.regs.now c.args.memory.now (g.met.M.ReadyMemory.stays_itself c.args.hart c.args.memory.now) (ap (λ o. has_data (class_of o)) c.in-Jump.is)
 
 pub returns-in-JumpAndLinkRegister-clause-reached : goal.returns-in-JumpAndLinkRegister-clause-reached
 returns-in-JumpAndLinkRegister-clause-reached g c =
-    apart g.M.ReadyMemory.memory g.M.ReadyMemory.serves g.M.ReadyMemory.stays c.args.decoded.now _ c.args.regs.now c.args.memory.now (g.met.M.ReadyMemory.stays_itself c.args.memory.now) (ap (λ o. has_data (class_of o)) c.in-JumpAndLinkRegister.is)
+    apart g.M.ReadyMemory.memory (g.M.ReadyMemory.serves c.args.hart) (g.M.ReadyMemory.stays c.args.hart) c.args.decoded.now _ c.args.regs.now c.args.memory.now (g.met.M.ReadyMemory.stays_itself c.args.hart c.args.memory.now) (ap (λ o. has_data (class_of o)) c.in-JumpAndLinkRegister.is)
 
 pub returns-in-JumpRegister-clause-reached : goal.returns-in-JumpRegister-clause-reached
 returns-in-JumpRegister-clause-reached g c =
-    apart g.M.ReadyMemory.memory g.M.ReadyMemory.serves g.M.ReadyMemory.stays c.args.decoded.now _ c.args.regs.now c.args.memory.now (g.met.M.ReadyMemory.stays_itself c.args.memory.now) (ap (λ o. has_data (class_of o)) c.in-JumpRegister.is)
+    apart g.M.ReadyMemory.memory (g.M.ReadyMemory.serves c.args.hart) (g.M.ReadyMemory.stays c.args.hart) c.args.decoded.now _ c.args.regs.now c.args.memory.now (g.met.M.ReadyMemory.stays_itself c.args.hart c.args.memory.now) (ap (λ o. has_data (class_of o)) c.in-JumpRegister.is)
 
 pub returns-in-Beq-clause-reached : goal.returns-in-Beq-clause-reached
 returns-in-Beq-clause-reached g c =
-    apart g.M.ReadyMemory.memory g.M.ReadyMemory.serves g.M.ReadyMemory.stays c.args.decoded.now _ c.args.regs.now c.args.memory.now (g.met.M.ReadyMemory.stays_itself c.args.memory.now) (ap (λ o. has_data (class_of o)) c.in-Beq.is)
+    apart g.M.ReadyMemory.memory (g.M.ReadyMemory.serves c.args.hart) (g.M.ReadyMemory.stays c.args.hart) c.args.decoded.now _ c.args.regs.now c.args.memory.now (g.met.M.ReadyMemory.stays_itself c.args.hart c.args.memory.now) (ap (λ o. has_data (class_of o)) c.in-Beq.is)
 
 pub returns-in-Bne-clause-reached : goal.returns-in-Bne-clause-reached
 returns-in-Bne-clause-reached g c =
-    apart g.M.ReadyMemory.memory g.M.ReadyMemory.serves g.M.ReadyMemory.stays c.args.decoded.now _ c.args.regs.now c.args.memory.now (g.met.M.ReadyMemory.stays_itself c.args.memory.now) (ap (λ o. has_data (class_of o)) c.in-Bne.is)
+    apart g.M.ReadyMemory.memory (g.M.ReadyMemory.serves c.args.hart) (g.M.ReadyMemory.stays c.args.hart) c.args.decoded.now _ c.args.regs.now c.args.memory.now (g.met.M.ReadyMemory.stays_itself c.args.hart c.args.memory.now) (ap (λ o. has_data (class_of o)) c.in-Bne.is)
 
 pub returns-in-Blt-clause-reached : goal.returns-in-Blt-clause-reached
 returns-in-Blt-clause-reached g c =
-    apart g.M.ReadyMemory.memory g.M.ReadyMemory.serves g.M.ReadyMemory.stays c.args.decoded.now _ c.args.regs.now c.args.memory.now (g.met.M.ReadyMemory.stays_itself c.args.memory.now) (ap (λ o. has_data (class_of o)) c.in-Blt.is)
+    apart g.M.ReadyMemory.memory (g.M.ReadyMemory.serves c.args.hart) (g.M.ReadyMemory.stays c.args.hart) c.args.decoded.now _ c.args.regs.now c.args.memory.now (g.met.M.ReadyMemory.stays_itself c.args.hart c.args.memory.now) (ap (λ o. has_data (class_of o)) c.in-Blt.is)
 
 pub returns-in-Bge-clause-reached : goal.returns-in-Bge-clause-reached
 returns-in-Bge-clause-reached g c =
-    apart g.M.ReadyMemory.memory g.M.ReadyMemory.serves g.M.ReadyMemory.stays c.args.decoded.now _ c.args.regs.now c.args.memory.now (g.met.M.ReadyMemory.stays_itself c.args.memory.now) (ap (λ o. has_data (class_of o)) c.in-Bge.is)
+    apart g.M.ReadyMemory.memory (g.M.ReadyMemory.serves c.args.hart) (g.M.ReadyMemory.stays c.args.hart) c.args.decoded.now _ c.args.regs.now c.args.memory.now (g.met.M.ReadyMemory.stays_itself c.args.hart c.args.memory.now) (ap (λ o. has_data (class_of o)) c.in-Bge.is)
 
 pub returns-in-Bltu-clause-reached : goal.returns-in-Bltu-clause-reached
 returns-in-Bltu-clause-reached g c =
-    apart g.M.ReadyMemory.memory g.M.ReadyMemory.serves g.M.ReadyMemory.stays c.args.decoded.now _ c.args.regs.now c.args.memory.now (g.met.M.ReadyMemory.stays_itself c.args.memory.now) (ap (λ o. has_data (class_of o)) c.in-Bltu.is)
+    apart g.M.ReadyMemory.memory (g.M.ReadyMemory.serves c.args.hart) (g.M.ReadyMemory.stays c.args.hart) c.args.decoded.now _ c.args.regs.now c.args.memory.now (g.met.M.ReadyMemory.stays_itself c.args.hart c.args.memory.now) (ap (λ o. has_data (class_of o)) c.in-Bltu.is)
 
 pub returns-in-Bgeu-clause-reached : goal.returns-in-Bgeu-clause-reached
 returns-in-Bgeu-clause-reached g c =
-    apart g.M.ReadyMemory.memory g.M.ReadyMemory.serves g.M.ReadyMemory.stays c.args.decoded.now _ c.args.regs.now c.args.memory.now (g.met.M.ReadyMemory.stays_itself c.args.memory.now) (ap (λ o. has_data (class_of o)) c.in-Bgeu.is)
+    apart g.M.ReadyMemory.memory (g.M.ReadyMemory.serves c.args.hart) (g.M.ReadyMemory.stays c.args.hart) c.args.decoded.now _ c.args.regs.now c.args.memory.now (g.met.M.ReadyMemory.stays_itself c.args.hart c.args.memory.now) (ap (λ o. has_data (class_of o)) c.in-Bgeu.is)
 
 pub returns-in-Addi-clause-reached : goal.returns-in-Addi-clause-reached
 returns-in-Addi-clause-reached g c =
-    apart g.M.ReadyMemory.memory g.M.ReadyMemory.serves g.M.ReadyMemory.stays c.args.decoded.now _ c.args.regs.now c.args.memory.now (g.met.M.ReadyMemory.stays_itself c.args.memory.now) (ap (λ o. has_data (class_of o)) c.in-Addi.is)
+    apart g.M.ReadyMemory.memory (g.M.ReadyMemory.serves c.args.hart) (g.M.ReadyMemory.stays c.args.hart) c.args.decoded.now _ c.args.regs.now c.args.memory.now (g.met.M.ReadyMemory.stays_itself c.args.hart c.args.memory.now) (ap (λ o. has_data (class_of o)) c.in-Addi.is)
 
 pub returns-in-Slti-clause-reached : goal.returns-in-Slti-clause-reached
 returns-in-Slti-clause-reached g c =
-    apart g.M.ReadyMemory.memory g.M.ReadyMemory.serves g.M.ReadyMemory.stays c.args.decoded.now _ c.args.regs.now c.args.memory.now (g.met.M.ReadyMemory.stays_itself c.args.memory.now) (ap (λ o. has_data (class_of o)) c.in-Slti.is)
+    apart g.M.ReadyMemory.memory (g.M.ReadyMemory.serves c.args.hart) (g.M.ReadyMemory.stays c.args.hart) c.args.decoded.now _ c.args.regs.now c.args.memory.now (g.met.M.ReadyMemory.stays_itself c.args.hart c.args.memory.now) (ap (λ o. has_data (class_of o)) c.in-Slti.is)
 
 pub returns-in-Sltiu-clause-reached : goal.returns-in-Sltiu-clause-reached
 returns-in-Sltiu-clause-reached g c =
-    apart g.M.ReadyMemory.memory g.M.ReadyMemory.serves g.M.ReadyMemory.stays c.args.decoded.now _ c.args.regs.now c.args.memory.now (g.met.M.ReadyMemory.stays_itself c.args.memory.now) (ap (λ o. has_data (class_of o)) c.in-Sltiu.is)
+    apart g.M.ReadyMemory.memory (g.M.ReadyMemory.serves c.args.hart) (g.M.ReadyMemory.stays c.args.hart) c.args.decoded.now _ c.args.regs.now c.args.memory.now (g.met.M.ReadyMemory.stays_itself c.args.hart c.args.memory.now) (ap (λ o. has_data (class_of o)) c.in-Sltiu.is)
 
 pub returns-in-Xori-clause-reached : goal.returns-in-Xori-clause-reached
 returns-in-Xori-clause-reached g c =
-    apart g.M.ReadyMemory.memory g.M.ReadyMemory.serves g.M.ReadyMemory.stays c.args.decoded.now _ c.args.regs.now c.args.memory.now (g.met.M.ReadyMemory.stays_itself c.args.memory.now) (ap (λ o. has_data (class_of o)) c.in-Xori.is)
+    apart g.M.ReadyMemory.memory (g.M.ReadyMemory.serves c.args.hart) (g.M.ReadyMemory.stays c.args.hart) c.args.decoded.now _ c.args.regs.now c.args.memory.now (g.met.M.ReadyMemory.stays_itself c.args.hart c.args.memory.now) (ap (λ o. has_data (class_of o)) c.in-Xori.is)
 
 pub returns-in-Ori-clause-reached : goal.returns-in-Ori-clause-reached
 returns-in-Ori-clause-reached g c =
-    apart g.M.ReadyMemory.memory g.M.ReadyMemory.serves g.M.ReadyMemory.stays c.args.decoded.now _ c.args.regs.now c.args.memory.now (g.met.M.ReadyMemory.stays_itself c.args.memory.now) (ap (λ o. has_data (class_of o)) c.in-Ori.is)
+    apart g.M.ReadyMemory.memory (g.M.ReadyMemory.serves c.args.hart) (g.M.ReadyMemory.stays c.args.hart) c.args.decoded.now _ c.args.regs.now c.args.memory.now (g.met.M.ReadyMemory.stays_itself c.args.hart c.args.memory.now) (ap (λ o. has_data (class_of o)) c.in-Ori.is)
 
 pub returns-in-Andi-clause-reached : goal.returns-in-Andi-clause-reached
 returns-in-Andi-clause-reached g c =
-    apart g.M.ReadyMemory.memory g.M.ReadyMemory.serves g.M.ReadyMemory.stays c.args.decoded.now _ c.args.regs.now c.args.memory.now (g.met.M.ReadyMemory.stays_itself c.args.memory.now) (ap (λ o. has_data (class_of o)) c.in-Andi.is)
+    apart g.M.ReadyMemory.memory (g.M.ReadyMemory.serves c.args.hart) (g.M.ReadyMemory.stays c.args.hart) c.args.decoded.now _ c.args.regs.now c.args.memory.now (g.met.M.ReadyMemory.stays_itself c.args.hart c.args.memory.now) (ap (λ o. has_data (class_of o)) c.in-Andi.is)
 
 pub returns-in-Slli-clause-reached : goal.returns-in-Slli-clause-reached
 returns-in-Slli-clause-reached g c =
-    apart g.M.ReadyMemory.memory g.M.ReadyMemory.serves g.M.ReadyMemory.stays c.args.decoded.now _ c.args.regs.now c.args.memory.now (g.met.M.ReadyMemory.stays_itself c.args.memory.now) (ap (λ o. has_data (class_of o)) c.in-Slli.is)
+    apart g.M.ReadyMemory.memory (g.M.ReadyMemory.serves c.args.hart) (g.M.ReadyMemory.stays c.args.hart) c.args.decoded.now _ c.args.regs.now c.args.memory.now (g.met.M.ReadyMemory.stays_itself c.args.hart c.args.memory.now) (ap (λ o. has_data (class_of o)) c.in-Slli.is)
 
 pub returns-in-Srli-clause-reached : goal.returns-in-Srli-clause-reached
 returns-in-Srli-clause-reached g c =
-    apart g.M.ReadyMemory.memory g.M.ReadyMemory.serves g.M.ReadyMemory.stays c.args.decoded.now _ c.args.regs.now c.args.memory.now (g.met.M.ReadyMemory.stays_itself c.args.memory.now) (ap (λ o. has_data (class_of o)) c.in-Srli.is)
+    apart g.M.ReadyMemory.memory (g.M.ReadyMemory.serves c.args.hart) (g.M.ReadyMemory.stays c.args.hart) c.args.decoded.now _ c.args.regs.now c.args.memory.now (g.met.M.ReadyMemory.stays_itself c.args.hart c.args.memory.now) (ap (λ o. has_data (class_of o)) c.in-Srli.is)
 
 pub returns-in-Srai-clause-reached : goal.returns-in-Srai-clause-reached
 returns-in-Srai-clause-reached g c =
-    apart g.M.ReadyMemory.memory g.M.ReadyMemory.serves g.M.ReadyMemory.stays c.args.decoded.now _ c.args.regs.now c.args.memory.now (g.met.M.ReadyMemory.stays_itself c.args.memory.now) (ap (λ o. has_data (class_of o)) c.in-Srai.is)
+    apart g.M.ReadyMemory.memory (g.M.ReadyMemory.serves c.args.hart) (g.M.ReadyMemory.stays c.args.hart) c.args.decoded.now _ c.args.regs.now c.args.memory.now (g.met.M.ReadyMemory.stays_itself c.args.hart c.args.memory.now) (ap (λ o. has_data (class_of o)) c.in-Srai.is)
 
 pub returns-in-Add-clause-reached : goal.returns-in-Add-clause-reached
 returns-in-Add-clause-reached g c =
-    apart g.M.ReadyMemory.memory g.M.ReadyMemory.serves g.M.ReadyMemory.stays c.args.decoded.now _ c.args.regs.now c.args.memory.now (g.met.M.ReadyMemory.stays_itself c.args.memory.now) (ap (λ o. has_data (class_of o)) c.in-Add.is)
+    apart g.M.ReadyMemory.memory (g.M.ReadyMemory.serves c.args.hart) (g.M.ReadyMemory.stays c.args.hart) c.args.decoded.now _ c.args.regs.now c.args.memory.now (g.met.M.ReadyMemory.stays_itself c.args.hart c.args.memory.now) (ap (λ o. has_data (class_of o)) c.in-Add.is)
 
 pub returns-in-Sub-clause-reached : goal.returns-in-Sub-clause-reached
 returns-in-Sub-clause-reached g c =
-    apart g.M.ReadyMemory.memory g.M.ReadyMemory.serves g.M.ReadyMemory.stays c.args.decoded.now _ c.args.regs.now c.args.memory.now (g.met.M.ReadyMemory.stays_itself c.args.memory.now) (ap (λ o. has_data (class_of o)) c.in-Sub.is)
+    apart g.M.ReadyMemory.memory (g.M.ReadyMemory.serves c.args.hart) (g.M.ReadyMemory.stays c.args.hart) c.args.decoded.now _ c.args.regs.now c.args.memory.now (g.met.M.ReadyMemory.stays_itself c.args.hart c.args.memory.now) (ap (λ o. has_data (class_of o)) c.in-Sub.is)
 
 pub returns-in-Sll-clause-reached : goal.returns-in-Sll-clause-reached
 returns-in-Sll-clause-reached g c =
-    apart g.M.ReadyMemory.memory g.M.ReadyMemory.serves g.M.ReadyMemory.stays c.args.decoded.now _ c.args.regs.now c.args.memory.now (g.met.M.ReadyMemory.stays_itself c.args.memory.now) (ap (λ o. has_data (class_of o)) c.in-Sll.is)
+    apart g.M.ReadyMemory.memory (g.M.ReadyMemory.serves c.args.hart) (g.M.ReadyMemory.stays c.args.hart) c.args.decoded.now _ c.args.regs.now c.args.memory.now (g.met.M.ReadyMemory.stays_itself c.args.hart c.args.memory.now) (ap (λ o. has_data (class_of o)) c.in-Sll.is)
 
 pub returns-in-Slt-clause-reached : goal.returns-in-Slt-clause-reached
 returns-in-Slt-clause-reached g c =
-    apart g.M.ReadyMemory.memory g.M.ReadyMemory.serves g.M.ReadyMemory.stays c.args.decoded.now _ c.args.regs.now c.args.memory.now (g.met.M.ReadyMemory.stays_itself c.args.memory.now) (ap (λ o. has_data (class_of o)) c.in-Slt.is)
+    apart g.M.ReadyMemory.memory (g.M.ReadyMemory.serves c.args.hart) (g.M.ReadyMemory.stays c.args.hart) c.args.decoded.now _ c.args.regs.now c.args.memory.now (g.met.M.ReadyMemory.stays_itself c.args.hart c.args.memory.now) (ap (λ o. has_data (class_of o)) c.in-Slt.is)
 
 pub returns-in-Sltu-clause-reached : goal.returns-in-Sltu-clause-reached
 returns-in-Sltu-clause-reached g c =
-    apart g.M.ReadyMemory.memory g.M.ReadyMemory.serves g.M.ReadyMemory.stays c.args.decoded.now _ c.args.regs.now c.args.memory.now (g.met.M.ReadyMemory.stays_itself c.args.memory.now) (ap (λ o. has_data (class_of o)) c.in-Sltu.is)
+    apart g.M.ReadyMemory.memory (g.M.ReadyMemory.serves c.args.hart) (g.M.ReadyMemory.stays c.args.hart) c.args.decoded.now _ c.args.regs.now c.args.memory.now (g.met.M.ReadyMemory.stays_itself c.args.hart c.args.memory.now) (ap (λ o. has_data (class_of o)) c.in-Sltu.is)
 
 pub returns-in-Xor-clause-reached : goal.returns-in-Xor-clause-reached
 returns-in-Xor-clause-reached g c =
-    apart g.M.ReadyMemory.memory g.M.ReadyMemory.serves g.M.ReadyMemory.stays c.args.decoded.now _ c.args.regs.now c.args.memory.now (g.met.M.ReadyMemory.stays_itself c.args.memory.now) (ap (λ o. has_data (class_of o)) c.in-Xor.is)
+    apart g.M.ReadyMemory.memory (g.M.ReadyMemory.serves c.args.hart) (g.M.ReadyMemory.stays c.args.hart) c.args.decoded.now _ c.args.regs.now c.args.memory.now (g.met.M.ReadyMemory.stays_itself c.args.hart c.args.memory.now) (ap (λ o. has_data (class_of o)) c.in-Xor.is)
 
 pub returns-in-Srl-clause-reached : goal.returns-in-Srl-clause-reached
 returns-in-Srl-clause-reached g c =
-    apart g.M.ReadyMemory.memory g.M.ReadyMemory.serves g.M.ReadyMemory.stays c.args.decoded.now _ c.args.regs.now c.args.memory.now (g.met.M.ReadyMemory.stays_itself c.args.memory.now) (ap (λ o. has_data (class_of o)) c.in-Srl.is)
+    apart g.M.ReadyMemory.memory (g.M.ReadyMemory.serves c.args.hart) (g.M.ReadyMemory.stays c.args.hart) c.args.decoded.now _ c.args.regs.now c.args.memory.now (g.met.M.ReadyMemory.stays_itself c.args.hart c.args.memory.now) (ap (λ o. has_data (class_of o)) c.in-Srl.is)
 
 pub returns-in-Sra-clause-reached : goal.returns-in-Sra-clause-reached
 returns-in-Sra-clause-reached g c =
-    apart g.M.ReadyMemory.memory g.M.ReadyMemory.serves g.M.ReadyMemory.stays c.args.decoded.now _ c.args.regs.now c.args.memory.now (g.met.M.ReadyMemory.stays_itself c.args.memory.now) (ap (λ o. has_data (class_of o)) c.in-Sra.is)
+    apart g.M.ReadyMemory.memory (g.M.ReadyMemory.serves c.args.hart) (g.M.ReadyMemory.stays c.args.hart) c.args.decoded.now _ c.args.regs.now c.args.memory.now (g.met.M.ReadyMemory.stays_itself c.args.hart c.args.memory.now) (ap (λ o. has_data (class_of o)) c.in-Sra.is)
 
 pub returns-in-Or-clause-reached : goal.returns-in-Or-clause-reached
 returns-in-Or-clause-reached g c =
-    apart g.M.ReadyMemory.memory g.M.ReadyMemory.serves g.M.ReadyMemory.stays c.args.decoded.now _ c.args.regs.now c.args.memory.now (g.met.M.ReadyMemory.stays_itself c.args.memory.now) (ap (λ o. has_data (class_of o)) c.in-Or.is)
+    apart g.M.ReadyMemory.memory (g.M.ReadyMemory.serves c.args.hart) (g.M.ReadyMemory.stays c.args.hart) c.args.decoded.now _ c.args.regs.now c.args.memory.now (g.met.M.ReadyMemory.stays_itself c.args.hart c.args.memory.now) (ap (λ o. has_data (class_of o)) c.in-Or.is)
 
 pub returns-in-And-clause-reached : goal.returns-in-And-clause-reached
 returns-in-And-clause-reached g c =
-    apart g.M.ReadyMemory.memory g.M.ReadyMemory.serves g.M.ReadyMemory.stays c.args.decoded.now _ c.args.regs.now c.args.memory.now (g.met.M.ReadyMemory.stays_itself c.args.memory.now) (ap (λ o. has_data (class_of o)) c.in-And.is)
+    apart g.M.ReadyMemory.memory (g.M.ReadyMemory.serves c.args.hart) (g.M.ReadyMemory.stays c.args.hart) c.args.decoded.now _ c.args.regs.now c.args.memory.now (g.met.M.ReadyMemory.stays_itself c.args.hart c.args.memory.now) (ap (λ o. has_data (class_of o)) c.in-And.is)
 
 pub returns-in-Mul-clause-reached : goal.returns-in-Mul-clause-reached
 returns-in-Mul-clause-reached g c =
-    apart g.M.ReadyMemory.memory g.M.ReadyMemory.serves g.M.ReadyMemory.stays c.args.decoded.now _ c.args.regs.now c.args.memory.now (g.met.M.ReadyMemory.stays_itself c.args.memory.now) (ap (λ o. has_data (class_of o)) c.in-Mul.is)
+    apart g.M.ReadyMemory.memory (g.M.ReadyMemory.serves c.args.hart) (g.M.ReadyMemory.stays c.args.hart) c.args.decoded.now _ c.args.regs.now c.args.memory.now (g.met.M.ReadyMemory.stays_itself c.args.hart c.args.memory.now) (ap (λ o. has_data (class_of o)) c.in-Mul.is)
 
 pub returns-in-Mulh-clause-reached : goal.returns-in-Mulh-clause-reached
 returns-in-Mulh-clause-reached g c =
-    apart g.M.ReadyMemory.memory g.M.ReadyMemory.serves g.M.ReadyMemory.stays c.args.decoded.now _ c.args.regs.now c.args.memory.now (g.met.M.ReadyMemory.stays_itself c.args.memory.now) (ap (λ o. has_data (class_of o)) c.in-Mulh.is)
+    apart g.M.ReadyMemory.memory (g.M.ReadyMemory.serves c.args.hart) (g.M.ReadyMemory.stays c.args.hart) c.args.decoded.now _ c.args.regs.now c.args.memory.now (g.met.M.ReadyMemory.stays_itself c.args.hart c.args.memory.now) (ap (λ o. has_data (class_of o)) c.in-Mulh.is)
 
 pub returns-in-Mulhsu-clause-reached : goal.returns-in-Mulhsu-clause-reached
 returns-in-Mulhsu-clause-reached g c =
-    apart g.M.ReadyMemory.memory g.M.ReadyMemory.serves g.M.ReadyMemory.stays c.args.decoded.now _ c.args.regs.now c.args.memory.now (g.met.M.ReadyMemory.stays_itself c.args.memory.now) (ap (λ o. has_data (class_of o)) c.in-Mulhsu.is)
+    apart g.M.ReadyMemory.memory (g.M.ReadyMemory.serves c.args.hart) (g.M.ReadyMemory.stays c.args.hart) c.args.decoded.now _ c.args.regs.now c.args.memory.now (g.met.M.ReadyMemory.stays_itself c.args.hart c.args.memory.now) (ap (λ o. has_data (class_of o)) c.in-Mulhsu.is)
 
 pub returns-in-Mulhu-clause-reached : goal.returns-in-Mulhu-clause-reached
 returns-in-Mulhu-clause-reached g c =
-    apart g.M.ReadyMemory.memory g.M.ReadyMemory.serves g.M.ReadyMemory.stays c.args.decoded.now _ c.args.regs.now c.args.memory.now (g.met.M.ReadyMemory.stays_itself c.args.memory.now) (ap (λ o. has_data (class_of o)) c.in-Mulhu.is)
+    apart g.M.ReadyMemory.memory (g.M.ReadyMemory.serves c.args.hart) (g.M.ReadyMemory.stays c.args.hart) c.args.decoded.now _ c.args.regs.now c.args.memory.now (g.met.M.ReadyMemory.stays_itself c.args.hart c.args.memory.now) (ap (λ o. has_data (class_of o)) c.in-Mulhu.is)
 
 pub returns-in-Div-clause-reached : goal.returns-in-Div-clause-reached
 returns-in-Div-clause-reached g c =
-    apart g.M.ReadyMemory.memory g.M.ReadyMemory.serves g.M.ReadyMemory.stays c.args.decoded.now _ c.args.regs.now c.args.memory.now (g.met.M.ReadyMemory.stays_itself c.args.memory.now) (ap (λ o. has_data (class_of o)) c.in-Div.is)
+    apart g.M.ReadyMemory.memory (g.M.ReadyMemory.serves c.args.hart) (g.M.ReadyMemory.stays c.args.hart) c.args.decoded.now _ c.args.regs.now c.args.memory.now (g.met.M.ReadyMemory.stays_itself c.args.hart c.args.memory.now) (ap (λ o. has_data (class_of o)) c.in-Div.is)
 
 pub returns-in-Divu-clause-reached : goal.returns-in-Divu-clause-reached
 returns-in-Divu-clause-reached g c =
-    apart g.M.ReadyMemory.memory g.M.ReadyMemory.serves g.M.ReadyMemory.stays c.args.decoded.now _ c.args.regs.now c.args.memory.now (g.met.M.ReadyMemory.stays_itself c.args.memory.now) (ap (λ o. has_data (class_of o)) c.in-Divu.is)
+    apart g.M.ReadyMemory.memory (g.M.ReadyMemory.serves c.args.hart) (g.M.ReadyMemory.stays c.args.hart) c.args.decoded.now _ c.args.regs.now c.args.memory.now (g.met.M.ReadyMemory.stays_itself c.args.hart c.args.memory.now) (ap (λ o. has_data (class_of o)) c.in-Divu.is)
 
 pub returns-in-Rem-clause-reached : goal.returns-in-Rem-clause-reached
 returns-in-Rem-clause-reached g c =
-    apart g.M.ReadyMemory.memory g.M.ReadyMemory.serves g.M.ReadyMemory.stays c.args.decoded.now _ c.args.regs.now c.args.memory.now (g.met.M.ReadyMemory.stays_itself c.args.memory.now) (ap (λ o. has_data (class_of o)) c.in-Rem.is)
+    apart g.M.ReadyMemory.memory (g.M.ReadyMemory.serves c.args.hart) (g.M.ReadyMemory.stays c.args.hart) c.args.decoded.now _ c.args.regs.now c.args.memory.now (g.met.M.ReadyMemory.stays_itself c.args.hart c.args.memory.now) (ap (λ o. has_data (class_of o)) c.in-Rem.is)
 
 pub returns-in-Remu-clause-reached : goal.returns-in-Remu-clause-reached
 returns-in-Remu-clause-reached g c =
-    apart g.M.ReadyMemory.memory g.M.ReadyMemory.serves g.M.ReadyMemory.stays c.args.decoded.now _ c.args.regs.now c.args.memory.now (g.met.M.ReadyMemory.stays_itself c.args.memory.now) (ap (λ o. has_data (class_of o)) c.in-Remu.is)
+    apart g.M.ReadyMemory.memory (g.M.ReadyMemory.serves c.args.hart) (g.M.ReadyMemory.stays c.args.hart) c.args.decoded.now _ c.args.regs.now c.args.memory.now (g.met.M.ReadyMemory.stays_itself c.args.hart c.args.memory.now) (ap (λ o. has_data (class_of o)) c.in-Remu.is)

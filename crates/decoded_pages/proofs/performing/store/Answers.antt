@@ -12,7 +12,7 @@ returns-then-ready_store-clause-performed g c = λ start place.
 
 pub returns-then-ready_store-clause-reached : goal.returns-then-ready_store-clause-reached
 returns-then-ready_store-clause-reached g c =
-    reached_store g.M.ReadyMemory.memory g.M.ReadyMemory.serves g.M.ReadyMemory.stays c.args.decoded.now c.args.kind c.add-address.result c.args.regs.now c.args.memory.now c.ready_store.new.self c.requires.class
+    reached_store g.M.ReadyMemory.memory (g.M.ReadyMemory.serves c.args.hart) (g.M.ReadyMemory.stays c.args.hart) c.args.decoded.now c.args.kind c.add-address.result c.args.regs.now c.args.memory.now c.ready_store.new.self c.requires.class
     (c.add-address.ensures ∙ ap (λ a. word_sum a c.args.decoded.now.immediate) c.read.ensures)
     ((λ i. stored (g.M.ReadyMemory.memory c.args.memory.now) (sym c.width_of_store.ensures i) c.add-address.result (sym c.read-2.ensures i)) ∙ c.ready_store.ensures.done c.if-ready_store.true)
     (c.ready_store.ensures.served c.if-ready_store.true) (c.ready_store.ensures.stayed c.if-ready_store.true)

@@ -16,15 +16,16 @@ loop-place-init g c =
       most = omega arith;
       line = (let line = c.requires.line in omega (arith, line));
       served = c.requires.served;
-      ran = subst (λ n. Iterates (Steps g.M.ReadyMemory.memory g.M.ReadyMemory.serves g.M.ReadyMemory.stays) n (with_pc c.args.regs.now (word_sum c.args.page.now.start (c.args.from * 4)), c.args.memory.now) (with_pc c.args.regs.now (word_sum c.args.page.now.start (c.args.from * 4)), c.args.memory.now))
-          none (no_step (Steps g.M.ReadyMemory.memory g.M.ReadyMemory.serves g.M.ReadyMemory.stays) (with_pc c.args.regs.now (word_sum c.args.page.now.start (c.args.from * 4)), c.args.memory.now));
+      admits = c.requires.hart;
+      ran = subst (λ n. Iterates (Steps g.M.ReadyMemory.memory (g.M.ReadyMemory.serves c.args.hart) (g.M.ReadyMemory.stays c.args.hart)) n (with_pc c.args.regs.now (word_sum c.args.page.now.start (c.args.from * 4)), c.args.memory.now) (with_pc c.args.regs.now (word_sum c.args.page.now.start (c.args.from * 4)), c.args.memory.now))
+          none (no_step (Steps g.M.ReadyMemory.memory (g.M.ReadyMemory.serves c.args.hart) (g.M.ReadyMemory.stays c.args.hart)) (with_pc c.args.regs.now (word_sum c.args.page.now.start (c.args.from * 4)), c.args.memory.now));
     }
 
 pub perform-requires-clause-aligned : goal.perform-requires-clause-aligned
 perform-requires-clause-aligned g c =
     let l = c.loop-place in
     let decoded = c.index-instructions-place.result in
-    let shows = shown_along g.M.ReadyMemory.memory g.M.ReadyMemory.serves g.M.ReadyMemory.stays c.args.page.now _ _ _ l.invariant.ran c.requires.shows in
+    let shows = shown_along g.M.ReadyMemory.memory (g.M.ReadyMemory.serves c.args.hart) (g.M.ReadyMemory.stays c.args.hart) c.args.page.now _ _ _ l.invariant.ran c.requires.shows in
     aligned_at c.args.page.now (g.M.ReadyMemory.memory l.memory) l.place decoded shows l.invariant.place
     (c.index-instructions-place.is ∙ ap (λ items. slice_index_or items l.place decoded) c.as_slice-instructions.ensures.value)
 
@@ -34,8 +35,8 @@ loop-place-smaller-in-Next g c =
     let page = c.args.page.now in
     let decoded = c.index-instructions-place.result in
     let memory = g.M.ReadyMemory.memory in
-    let serves = g.M.ReadyMemory.serves in
-    let stays = g.M.ReadyMemory.stays in
+    let serves = (g.M.ReadyMemory.serves c.args.hart) in
+    let stays = (g.M.ReadyMemory.stays c.args.hart) in
     let shows = shown_along memory serves stays page _ _ _ l.invariant.ran c.requires.shows in
     let at : decoded ≡ slice_index_or page.instructions.items l.place decoded = c.index-instructions-place.is ∙ ap (λ items. slice_index_or items l.place decoded) c.as_slice-instructions.ensures.value in
     let both = next_in_line memory page l.memory c.perform.new.memory l.place decoded l.regs c.perform.new.regs l.limit shows l.invariant.place at c.in-Next.ensures.performed l.invariant.line in
@@ -48,8 +49,8 @@ loop-place-preserved-in-Next g c =
     let page = c.args.page.now in
     let decoded = c.index-instructions-place.result in
     let memory = g.M.ReadyMemory.memory in
-    let serves = g.M.ReadyMemory.serves in
-    let stays = g.M.ReadyMemory.stays in
+    let serves = (g.M.ReadyMemory.serves c.args.hart) in
+    let stays = (g.M.ReadyMemory.stays c.args.hart) in
     let shows = shown_along memory serves stays page _ _ _ l.invariant.ran c.requires.shows in
     let at : decoded ≡ slice_index_or page.instructions.items l.place decoded = c.index-instructions-place.is ∙ ap (λ items. slice_index_or items l.place decoded) c.as_slice-instructions.ensures.value in
     let both = next_in_line memory page l.memory c.perform.new.memory l.place decoded l.regs c.perform.new.regs l.limit shows l.invariant.place at c.in-Next.ensures.performed l.invariant.line in
@@ -61,7 +62,8 @@ loop-place-preserved-in-Next g c =
       within = omega (arith, less);
       most = omega (arith, l.invariant.most);
       line = both.1;
-      served = g.met.M.ReadyMemory.serves_on l.memory c.perform.new.memory Fetch (page_number page.start) c.in-Next.ensures.reached.stayed l.invariant.served;
+      served = g.met.M.ReadyMemory.serves_on c.args.hart l.memory c.perform.new.memory Fetch (page_number page.start) c.in-Next.ensures.reached.stayed l.invariant.served;
+      admits = g.met.M.ReadyMemory.admits_on c.args.hart l.memory c.perform.new.memory c.in-Next.ensures.reached.stayed l.invariant.admits;
       ran = subst (λ n. Iterates (Steps memory serves stays) n (with_pc c.args.regs.now (word_sum page.start (c.args.from * 4)), c.args.memory.now) (with_pc c.perform.new.regs (word_sum page.start ((l.place + 1) * 4)), c.perform.new.memory))
           one (one_more (Steps memory serves stays) (c.args.most - (l.limit - l.place)) (with_pc c.args.regs.now (word_sum page.start (c.args.from * 4)), c.args.memory.now) (with_pc l.regs (word_sum page.start (l.place * 4)), l.memory) (with_pc c.perform.new.regs (word_sum page.start ((l.place + 1) * 4)), c.perform.new.memory) l.invariant.ran
           (next_step memory serves stays page l.memory c.perform.new.memory l.place decoded l.regs c.perform.new.regs shows l.invariant.place shows.decoded.small at l.invariant.served c.in-Next.ensures.performed c.in-Next.ensures.reached));
@@ -73,8 +75,8 @@ overflow_sub-left-in-To g c =
     let page = c.args.page.now in
     let decoded = c.index-instructions-place.result in
     let memory = g.M.ReadyMemory.memory in
-    let serves = g.M.ReadyMemory.serves in
-    let stays = g.M.ReadyMemory.stays in
+    let serves = (g.M.ReadyMemory.serves c.args.hart) in
+    let stays = (g.M.ReadyMemory.stays c.args.hart) in
     let shows = shown_along memory serves stays page _ _ _ l.invariant.ran c.requires.shows in
     let at : decoded ≡ slice_index_or page.instructions.items l.place decoded = c.index-instructions-place.is ∙ ap (λ items. slice_index_or items l.place decoded) c.as_slice-instructions.ensures.value in
     let less = to_in_line memory page l.memory c.perform.new.memory l.place decoded l.regs c.perform.new.regs l.limit c.in-To.relative shows l.invariant.place at c.in-To.ensures.performed l.invariant.line in
@@ -86,8 +88,8 @@ returns-then-relative-ge4096-clause-ran g c =
     let page = c.args.page.now in
     let decoded = c.index-instructions-place.result in
     let memory = g.M.ReadyMemory.memory in
-    let serves = g.M.ReadyMemory.serves in
-    let stays = g.M.ReadyMemory.stays in
+    let serves = (g.M.ReadyMemory.serves c.args.hart) in
+    let stays = (g.M.ReadyMemory.stays c.args.hart) in
     let shows = shown_along memory serves stays page _ _ _ l.invariant.ran c.requires.shows in
     let at : decoded ≡ slice_index_or page.instructions.items l.place decoded = c.index-instructions-place.is ∙ ap (λ items. slice_index_or items l.place decoded) c.as_slice-instructions.ensures.value in
     let less = to_in_line memory page l.memory c.perform.new.memory l.place decoded l.regs c.perform.new.regs l.limit c.in-To.relative shows l.invariant.place at c.in-To.ensures.performed l.invariant.line in
@@ -101,8 +103,8 @@ returns-then-limit-ends-clause-ran g c =
     let page = c.args.page.now in
     let decoded = c.index-instructions-place.result in
     let memory = g.M.ReadyMemory.memory in
-    let serves = g.M.ReadyMemory.serves in
-    let stays = g.M.ReadyMemory.stays in
+    let serves = (g.M.ReadyMemory.serves c.args.hart) in
+    let stays = (g.M.ReadyMemory.stays c.args.hart) in
     let shows = shown_along memory serves stays page _ _ _ l.invariant.ran c.requires.shows in
     let at : decoded ≡ slice_index_or page.instructions.items l.place decoded = c.index-instructions-place.is ∙ ap (λ items. slice_index_or items l.place decoded) c.as_slice-instructions.ensures.value in
     let less = to_in_line memory page l.memory c.perform.new.memory l.place decoded l.regs c.perform.new.regs l.limit c.in-To.relative shows l.invariant.place at c.in-To.ensures.performed l.invariant.line in
@@ -116,8 +118,8 @@ loop-place-smaller g c =
     let page = c.args.page.now in
     let decoded = c.index-instructions-place.result in
     let memory = g.M.ReadyMemory.memory in
-    let serves = g.M.ReadyMemory.serves in
-    let stays = g.M.ReadyMemory.stays in
+    let serves = (g.M.ReadyMemory.serves c.args.hart) in
+    let stays = (g.M.ReadyMemory.stays c.args.hart) in
     let shows = shown_along memory serves stays page _ _ _ l.invariant.ran c.requires.shows in
     let at : decoded ≡ slice_index_or page.instructions.items l.place decoded = c.index-instructions-place.is ∙ ap (λ items. slice_index_or items l.place decoded) c.as_slice-instructions.ensures.value in
     let less = to_in_line memory page l.memory c.perform.new.memory l.place decoded l.regs c.perform.new.regs l.limit c.in-To.relative shows l.invariant.place at c.in-To.ensures.performed l.invariant.line in
@@ -129,8 +131,8 @@ loop-place-preserved g c =
     let page = c.args.page.now in
     let decoded = c.index-instructions-place.result in
     let memory = g.M.ReadyMemory.memory in
-    let serves = g.M.ReadyMemory.serves in
-    let stays = g.M.ReadyMemory.stays in
+    let serves = (g.M.ReadyMemory.serves c.args.hart) in
+    let stays = (g.M.ReadyMemory.stays c.args.hart) in
     let shows = shown_along memory serves stays page _ _ _ l.invariant.ran c.requires.shows in
     let at : decoded ≡ slice_index_or page.instructions.items l.place decoded = c.index-instructions-place.is ∙ ap (λ items. slice_index_or items l.place decoded) c.as_slice-instructions.ensures.value in
     let less = to_in_line memory page l.memory c.perform.new.memory l.place decoded l.regs c.perform.new.regs l.limit c.in-To.relative shows l.invariant.place at c.in-To.ensures.performed l.invariant.line in
@@ -144,7 +146,8 @@ loop-place-preserved g c =
       within = omega arith;
       most = omega (arith, l.invariant.most);
       line = omega (arith, end, fits);
-      served = g.met.M.ReadyMemory.serves_on l.memory c.perform.new.memory Fetch (page_number page.start) c.in-To.ensures.reached.stayed l.invariant.served;
+      served = g.met.M.ReadyMemory.serves_on c.args.hart l.memory c.perform.new.memory Fetch (page_number page.start) c.in-To.ensures.reached.stayed l.invariant.served;
+      admits = g.met.M.ReadyMemory.admits_on c.args.hart l.memory c.perform.new.memory c.in-To.ensures.reached.stayed l.invariant.admits;
       ran = went_further (Steps memory serves stays) page l.memory c.perform.new.memory l.place decoded l.regs c.perform.new.regs c.in-To.relative (c.args.most - (l.limit - l.place)) (c.args.most - (c.in-To.relative / 4 + (l.limit - l.place - 1) - c.in-To.relative / 4)) (word_sum page.start (c.in-To.relative / 4 * 4)) _ one l.invariant.ran
           (to_step memory serves stays page l.memory c.perform.new.memory l.place decoded l.regs c.perform.new.regs c.in-To.relative shows l.invariant.place shows.decoded.small at l.invariant.served c.in-To.ensures.performed c.in-To.ensures.reached)
           (ap (word_sum page.start) (counted_back c.in-To.relative even));

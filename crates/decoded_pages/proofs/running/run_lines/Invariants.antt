@@ -12,8 +12,9 @@ invariant-loop-place g l = record {
   within : l.place ≤ l.limit;
   most : l.limit - l.place ≤ l.most;
   line : slice_index_or l.page.ends.items l.place 0 ≤ l.limit;
-  served : g.M.ReadyMemory.serves l.memory Fetch (page_number l.page.start);
-  ran : Iterates (Steps g.M.ReadyMemory.memory g.M.ReadyMemory.serves g.M.ReadyMemory.stays) (l.most - (l.limit - l.place)) (with_pc l.initial.regs (word_sum l.page.start (l.from * 4)), l.initial.memory)
+  served : g.M.ReadyMemory.serves l.hart l.memory Fetch (page_number l.page.start);
+  admits : g.M.ReadyMemory.admits l.hart l.memory;
+  ran : Iterates (Steps g.M.ReadyMemory.memory (g.M.ReadyMemory.serves l.hart) (g.M.ReadyMemory.stays l.hart)) (l.most - (l.limit - l.place)) (with_pc l.initial.regs (word_sum l.page.start (l.from * 4)), l.initial.memory)
       (with_pc l.regs (word_sum l.page.start (l.place * 4)), l.memory);
 }
 

@@ -14,15 +14,16 @@ loop-left-init g c =
       within = omega arith;
       place = let from = c.requires.from in omega arith;
       served = c.requires.served;
-      ran = subst (λ n. Iterates (Steps g.M.ReadyMemory.memory g.M.ReadyMemory.serves g.M.ReadyMemory.stays) n (with_pc c.args.regs.now (word_sum c.args.page.now.start (c.args.from * 4)), c.args.memory.now) (with_pc c.args.regs.now (word_sum c.args.page.now.start (c.args.from * 4)), c.args.memory.now))
-          none (no_step (Steps g.M.ReadyMemory.memory g.M.ReadyMemory.serves g.M.ReadyMemory.stays) (with_pc c.args.regs.now (word_sum c.args.page.now.start (c.args.from * 4)), c.args.memory.now));
+      admits = c.requires.hart;
+      ran = subst (λ n. Iterates (Steps g.M.ReadyMemory.memory (g.M.ReadyMemory.serves c.args.hart) (g.M.ReadyMemory.stays c.args.hart)) n (with_pc c.args.regs.now (word_sum c.args.page.now.start (c.args.from * 4)), c.args.memory.now) (with_pc c.args.regs.now (word_sum c.args.page.now.start (c.args.from * 4)), c.args.memory.now))
+          none (no_step (Steps g.M.ReadyMemory.memory (g.M.ReadyMemory.serves c.args.hart) (g.M.ReadyMemory.stays c.args.hart)) (with_pc c.args.regs.now (word_sum c.args.page.now.start (c.args.from * 4)), c.args.memory.now));
     }
 
 pub perform-requires-clause-aligned : goal.perform-requires-clause-aligned
 perform-requires-clause-aligned g c =
     let l = c.loop-left in
     let decoded = c.index-instructions-place.result in
-    let shows = shown_along g.M.ReadyMemory.memory g.M.ReadyMemory.serves g.M.ReadyMemory.stays c.args.page.now _ _ _ l.invariant.ran c.requires.shows in
+    let shows = shown_along g.M.ReadyMemory.memory (g.M.ReadyMemory.serves c.args.hart) (g.M.ReadyMemory.stays c.args.hart) c.args.page.now _ _ _ l.invariant.ran c.requires.shows in
     aligned_at c.args.page.now (g.M.ReadyMemory.memory l.memory) l.place decoded shows l.invariant.place
     (c.index-instructions-place.is ∙ ap (λ items. slice_index_or items l.place decoded) c.as_slice-instructions.ensures.value)
 
@@ -32,8 +33,8 @@ loop-left-preserved-in-Next g c =
     let page = c.args.page.now in
     let decoded = c.index-instructions-place.result in
     let memory = g.M.ReadyMemory.memory in
-    let serves = g.M.ReadyMemory.serves in
-    let stays = g.M.ReadyMemory.stays in
+    let serves = (g.M.ReadyMemory.serves c.args.hart) in
+    let stays = (g.M.ReadyMemory.stays c.args.hart) in
     let shows = shown_along memory serves stays page _ _ _ l.invariant.ran c.requires.shows in
     let at : decoded ≡ slice_index_or page.instructions.items l.place decoded = c.index-instructions-place.is ∙ ap (λ items. slice_index_or items l.place decoded) c.as_slice-instructions.ensures.value in
     let one : c.args.most - l.left + 1 ≡ c.args.most - (l.left - 1) = omega (arith, l.invariant.within, c.loop-left-test.true) in
@@ -41,7 +42,8 @@ loop-left-preserved-in-Next g c =
     record {
       within = omega (arith, l.invariant.within);
       place = omega (arith, below);
-      served = g.met.M.ReadyMemory.serves_on l.memory c.perform.new.memory Fetch (page_number page.start) c.in-Next.ensures.reached.stayed l.invariant.served;
+      served = g.met.M.ReadyMemory.serves_on c.args.hart l.memory c.perform.new.memory Fetch (page_number page.start) c.in-Next.ensures.reached.stayed l.invariant.served;
+      admits = g.met.M.ReadyMemory.admits_on c.args.hart l.memory c.perform.new.memory c.in-Next.ensures.reached.stayed l.invariant.admits;
       ran = subst (λ n. Iterates (Steps memory serves stays) n (with_pc c.args.regs.now (word_sum page.start (c.args.from * 4)), c.args.memory.now) (with_pc c.perform.new.regs (word_sum page.start ((l.place + 1) * 4)), c.perform.new.memory))
           one (one_more (Steps memory serves stays) (c.args.most - l.left) (with_pc c.args.regs.now (word_sum page.start (c.args.from * 4)), c.args.memory.now) (with_pc l.regs (word_sum page.start (l.place * 4)), l.memory) (with_pc c.perform.new.regs (word_sum page.start ((l.place + 1) * 4)), c.perform.new.memory) l.invariant.ran
           (next_step memory serves stays page l.memory c.perform.new.memory l.place decoded l.regs c.perform.new.regs shows l.invariant.place shows.decoded.small at l.invariant.served c.in-Next.ensures.performed c.in-Next.ensures.reached));
@@ -53,8 +55,8 @@ returns-then-relative-ge4096-clause-ran g c =
     let page = c.args.page.now in
     let decoded = c.index-instructions-place.result in
     let memory = g.M.ReadyMemory.memory in
-    let serves = g.M.ReadyMemory.serves in
-    let stays = g.M.ReadyMemory.stays in
+    let serves = (g.M.ReadyMemory.serves c.args.hart) in
+    let stays = (g.M.ReadyMemory.stays c.args.hart) in
     let shows = shown_along memory serves stays page _ _ _ l.invariant.ran c.requires.shows in
     let at : decoded ≡ slice_index_or page.instructions.items l.place decoded = c.index-instructions-place.is ∙ ap (λ items. slice_index_or items l.place decoded) c.as_slice-instructions.ensures.value in
     let one : c.args.most - l.left + 1 ≡ c.args.most - (l.left - 1) = omega (arith, l.invariant.within, c.loop-left-test.true) in
@@ -67,8 +69,8 @@ loop-left-preserved g c =
     let page = c.args.page.now in
     let decoded = c.index-instructions-place.result in
     let memory = g.M.ReadyMemory.memory in
-    let serves = g.M.ReadyMemory.serves in
-    let stays = g.M.ReadyMemory.stays in
+    let serves = (g.M.ReadyMemory.serves c.args.hart) in
+    let stays = (g.M.ReadyMemory.stays c.args.hart) in
     let shows = shown_along memory serves stays page _ _ _ l.invariant.ran c.requires.shows in
     let at : decoded ≡ slice_index_or page.instructions.items l.place decoded = c.index-instructions-place.is ∙ ap (λ items. slice_index_or items l.place decoded) c.as_slice-instructions.ensures.value in
     let one : c.args.most - l.left + 1 ≡ c.args.most - (l.left - 1) = omega (arith, l.invariant.within, c.loop-left-test.true) in
@@ -76,7 +78,8 @@ loop-left-preserved g c =
     record {
       within = omega (arith, l.invariant.within);
       place = omega (arith, c.if-relative-ge4096.false);
-      served = g.met.M.ReadyMemory.serves_on l.memory c.perform.new.memory Fetch (page_number page.start) c.in-To.ensures.reached.stayed l.invariant.served;
+      served = g.met.M.ReadyMemory.serves_on c.args.hart l.memory c.perform.new.memory Fetch (page_number page.start) c.in-To.ensures.reached.stayed l.invariant.served;
+      admits = g.met.M.ReadyMemory.admits_on c.args.hart l.memory c.perform.new.memory c.in-To.ensures.reached.stayed l.invariant.admits;
       ran = went_further (Steps memory serves stays) page l.memory c.perform.new.memory l.place decoded l.regs c.perform.new.regs c.in-To.relative (c.args.most - l.left) (c.args.most - (l.left - 1)) (word_sum page.start (c.in-To.relative / 4 * 4)) _ one l.invariant.ran
           (to_step memory serves stays page l.memory c.perform.new.memory l.place decoded l.regs c.perform.new.regs c.in-To.relative shows l.invariant.place shows.decoded.small at l.invariant.served c.in-To.ensures.performed c.in-To.ensures.reached)
           (ap (word_sum page.start) (counted_back c.in-To.relative even));
@@ -87,7 +90,7 @@ returns-in-ByWord-clause-ran g c =
     let l = c.loop-left in
     let page = c.args.page.now in
     let memory = g.M.ReadyMemory.memory in
-    let serves = g.M.ReadyMemory.serves in
-    let stays = g.M.ReadyMemory.stays in
+    let serves = (g.M.ReadyMemory.serves c.args.hart) in
+    let stays = (g.M.ReadyMemory.stays c.args.hart) in
     stayed (Steps memory serves stays) page l.memory c.perform.new.memory l.place l.regs c.perform.new.regs (c.args.most - l.left) c.add-in-ByWord.result _ l.invariant.ran
     c.in-ByWord.ensures.performed.registers_stay c.in-ByWord.ensures.kept c.add-in-ByWord.ensures

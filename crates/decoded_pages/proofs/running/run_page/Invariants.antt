@@ -10,8 +10,9 @@ abbrev pub invariant-loop-left : goal.invariant-loop-left
 invariant-loop-left g l = record {
   within : l.left ≤ l.most;
   place : l.place ≤ 1024;
-  served : g.M.ReadyMemory.serves l.memory Fetch (page_number l.page.start);
-  ran : Iterates (Steps g.M.ReadyMemory.memory g.M.ReadyMemory.serves g.M.ReadyMemory.stays) (l.most - l.left) (with_pc l.initial.regs (word_sum l.page.start (l.from * 4)), l.initial.memory)
+  served : g.M.ReadyMemory.serves l.hart l.memory Fetch (page_number l.page.start);
+  admits : g.M.ReadyMemory.admits l.hart l.memory;
+  ran : Iterates (Steps g.M.ReadyMemory.memory (g.M.ReadyMemory.serves l.hart) (g.M.ReadyMemory.stays l.hart)) (l.most - l.left) (with_pc l.initial.regs (word_sum l.page.start (l.from * 4)), l.initial.memory)
       (with_pc l.regs (word_sum l.page.start (l.place * 4)), l.memory);
 }
 

@@ -1,0 +1,6 @@
+use Rattle.page_memory.specs.declared.words.Access.TheVariants.{Fetch}
+use Rattle.paged_memory.proofs.HitLaws.{marks_hit}
+use Rattle.paged_memory.proofs.access.is_fetched_at_once.Goals as goal
+
+pub returns-in-Ok-clause-marked : goal.returns-in-Ok-clause-marked
+returns-in-Ok-clause-marked g c = λ _. marks_hit c.args.page c.args.hart _ Fetch c.requires.holds c.requires.hart c.in-Ok.ensures.hits

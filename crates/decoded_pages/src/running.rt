@@ -71,6 +71,7 @@ pub fn run_decoded<M: ReadyMemory>(
                 end: RunEnd::Word,
             };
         }
+        // It stays at hand while the run is in the page.
         if !memory.ready_fetch(hart, pc) {
             return Ran {
                 pc,

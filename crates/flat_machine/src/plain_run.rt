@@ -162,8 +162,7 @@ fn run_part(
     ensures ran { plain_run hart (most - result.left) regs.old memory.old ≡
         Some (regs.new, memory.new) }
 {
-    let _ = hart;
-    let ran = run_decoded(regs, memory, decoded, regs.pc(), most);
+    let ran = run_decoded(hart, regs, memory, decoded, regs.pc(), most);
     regs.set_pc(ran.pc);
     ran
 }

@@ -1,8 +1,9 @@
 -- What a hart's cache serves at once, and what stays over accesses that it serves.
-use Rattle.std.specs.Prelude.{◌≡◌, ℕ, ◌^◌, ◌<◌}
+use Rattle.std.specs.Prelude.{◌≡◌, ℕ, ◌^◌, ◌<◌, List}
 use Rattle.page_memory.specs.declared.words.Access.{Access}
 use Rattle.page_memory.specs.declared.words.Access.TheVariants.{Store}
 use Rattle.paged_memory.specs.Access.{MarksUse, TakesStores}
+use Rattle.paged_memory.specs.Coheres.{Coheres}
 use Rattle.paged_memory.specs.HartMemory.{KeepsAccess}
 use Rattle.paged_memory.specs.Moving.{OnlyPages}
 use Rattle.paged_memory.specs.Paged.{PagedValue, seen_at}
@@ -16,8 +17,9 @@ module _ {S : Type 0} where
     pub marked : MarksUse memory.pages memory.tables (cache_in memory hart) access page
     pub takes : access ≡ Store → TakesStores memory.pages memory.tables page
 
-  -- nothing but bytes in frames changes
-  pub record KeepsReady (hart : ℕ) (old new : PagedValue S) : Type 0 where
+  -- nothing but bytes in frames changes; and pages, tables and caches go together if they did
+  pub record KeepsReady (held : S → List ℕ) (honest : Type 0) (hart : ℕ) (old new : PagedValue S) : Type 0 where
     pub only : OnlyPages old new
     pub seen : (page : ℕ) → seen_at new.pages page ≡ seen_at old.pages page
     pub kept : KeepsAccess hart old new
+    pub coheres : Coheres held honest old → Coheres held honest new

@@ -1,20 +1,24 @@
 -- What a hart's cache serves stays at hand over accesses that it serves.
-use Rattle.std.specs.Prelude.{◌≡◌, ◌<◌, ℕ, List, length, refl}
+use Rattle.std.specs.Prelude.{◌<◌, ◌^◌, ℕ, length, refl, List}
 use Rattle.std.proofs.Common.{sym, ap, ◌∙◌, subst, inl, inr}
 use Rattle.page_memory.specs.declared.words.Access.{Access}
+use Rattle.page_memory.specs.declared.words.Access.TheVariants.{Store}
 use Rattle.sv32_table.specs.EntryAt.{entry_at}
 use Rattle.paged_memory.specs.Access.{HasPage, MarksUse, cache_of, is_resident}
+use Rattle.paged_memory.specs.HartMemory.{MarksSince}
 use Rattle.paged_memory.specs.HartMemoryLaws.{access_itself}
+use Rattle.paged_memory.specs.Missing.{TakesIn}
 use Rattle.paged_memory.specs.Paged.{PagedValue, seen_at}
 use Rattle.paged_memory.specs.Ready.{ServesIn, KeepsReady}
 use Rattle.paged_memory.specs.Seen.{is_used, takes_stores}
+use Rattle.paged_memory.specs.Using.{cache_in}
 use Rattle.paged_memory.specs.Whole.{harts_in}
 
-module _ {S : Type 0} where
-  pub ready_itself : (hart : ℕ) (memory : PagedValue S) → KeepsReady hart memory memory
-  ready_itself hart memory = record { only = refl; seen = λ page. refl; kept = access_itself hart memory }
+module _ {S : Type 0} {held : S → List ℕ} {honest : Type 0} where
+  pub ready_itself : (hart : ℕ) (memory : PagedValue S) → KeepsReady held honest hart memory memory
+  ready_itself hart memory = record { only = refl; seen = λ page. refl; kept = access_itself hart memory; coheres = λ is. is }
 
-  module _ (hart : ℕ) (old new : PagedValue S) (kept : KeepsReady hart old new) where
+  module _ (hart : ℕ) (old new : PagedValue S) (kept : KeepsReady held honest hart old new) where
     had_on : (page : ℕ) → HasPage old.pages (cache_of old.caches hart) page → HasPage new.pages (cache_of new.caches hart) page
     had_on page (inl resident) = inl (ap is_resident (kept.seen page) ∙ resident)
     had_on page (inr held) = subst (λ (m : PagedValue S). HasPage new.pages (cache_of m.caches hart) page) (sym kept.only) (inr held)
@@ -33,3 +37,17 @@ module _ {S : Type 0} where
       marked = marked_on access page serves.marked;
       takes = λ is. ap (λ s. takes_stores s (entry_at new.tables page)) (kept.seen page) ∙ ap (λ (m : PagedValue S). takes_stores (seen_at old.pages page) (entry_at m.tables page)) kept.only ∙ serves.takes is;
     }
+
+    -- a use that was marked is marked since then, and a page that took stores does
+    pub marked_still : (access : Access) (page : ℕ) → page < 2 ^ 20 → MarksUse old.pages old.tables (cache_in old hart) access page → MarksSince new (cache_in old hart) page
+    marked_still access page small (inl used) = (
+      small,
+      inl (ap (λ s. is_used s (entry_at new.tables page)) (kept.seen page) ∙ ap (λ (m : PagedValue S). is_used (seen_at old.pages page) (entry_at m.tables page)) kept.only ∙ used),
+    )
+    marked_still access page small (inr served) = (small, inr (record { access = access; served = served }))
+
+    pub takes_still : (page : ℕ) → ServesIn old hart Store page → TakesIn new page
+    takes_still page serves = (
+      serves.small,
+      ap (λ s. takes_stores s (entry_at new.tables page)) (kept.seen page) ∙ ap (λ (m : PagedValue S). takes_stores (seen_at old.pages page) (entry_at m.tables page)) kept.only ∙ serves.takes refl,
+    )

@@ -26,7 +26,7 @@ impl<L: Ledger, S: SwapSlot> ReadyMemory for PagedMemory<L, S> {
 
     ghost serves = { λ hart m. ServesIn m hart };
 
-    ghost stays = { λ hart. KeepsReady hart };
+    ghost stays = { λ hart. KeepsReady S.content S.honest hart };
 
     ghost stays_itself = { λ hart m. ready_itself hart m };
 
@@ -68,7 +68,7 @@ impl<L: Ledger, S: SwapSlot> ReadyMemory for PagedMemory<L, S> {
         if self.reservations.any() {
             return false;
         }
-        store_ready(
+        let is_stored = store_ready(
             &mut self.pages,
             &self.tables,
             &self.caches,
@@ -76,6 +76,8 @@ impl<L: Ledger, S: SwapSlot> ReadyMemory for PagedMemory<L, S> {
             width,
             address,
             word,
-        )
+        );
+        self.coherent();
+        is_stored
     }
 }

@@ -11,6 +11,7 @@ pub mod FreshPages
 pub mod Opened
 pub mod CodeKept
 pub mod CodeSpaces
+pub mod DecodedRuns
 pub mod Bounding
 pub mod StepsOn
 pub mod SliceChain

@@ -3,6 +3,7 @@
 ghost use Rattle.std.specs.Prelude.{◌≡◌, ◌≤◌, ◌<◌, true, [], min, length, option_map, Some, IfNone};
 ghost use Rattle.std.specs.Prelude.{IfSome, IfOk};
 ghost use Rattle.std.specs.Option.{option_or};
+ghost use Rattle.decoded_pages.specs.Code.{ShowsAll};
 ghost use Rattle.flat_machine.specs.Process.{may_step, opening};
 ghost use Rattle.flat_machine.specs.Schedule.{room};
 ghost use Rattle.paged_memory.specs.Paged.{memory_of};
@@ -12,6 +13,7 @@ ghost use Rattle.space_core.specs.RunningValue.{beside, with_memory};
 
 use crate::progress::Steps;
 use crate::running::Running;
+use decoded_pages::DecodedPages;
 use elf_image::Image;
 use flat_machine::{End, KillCause, Schedule, Turn};
 use paged_memory::PagedMemory;
@@ -61,11 +63,13 @@ impl Recorded {
         &mut self,
         hart: u32,
         memory: &mut PagedMemory<L, S>,
+        decoded: &DecodedPages,
         most: u32,
     ) -> Steps
         requires may { may_step hart (with_memory self.old.running
             (memory_of S.content memory.old)) ≡ true }
         requires cached { harts_in memory.old ≡ length self.old.running.harts }
+        requires shows { ShowsAll decoded.now (memory_of S.content memory.old) }
         requires fits { most ≤ room self.old.schedule hart }
         ensures within { result.ran ≤ most }
         ensures runs { RunsRecorded S.content S.honest hart result.ran (option_map (λ slice.
@@ -73,7 +77,7 @@ impl Recorded {
         ensures all { IfNone result.last (result.ran ≡ most) }
         ensures short { IfSome result.last (λ _. result.ran < most) }
     {
-        let course = self.running.run_each(hart, memory, most);
+        let course = self.running.run_each(hart, memory, decoded, most);
         match course.last {
             Outcome::Done => {
                 self.schedule.record(hart, course.done);

@@ -62,7 +62,9 @@ impl<L: Ledger, S: SwapSlot> Space<L, S> {
         ensures all { IfNone result.last (result.ran ≡ most) }
         ensures short { IfSome result.last (λ _. result.ran < most) }
     {
-        let steps = self.recorded.run(hart, &mut self.memory, most);
+        let steps = self
+            .recorded
+            .run(hart, &mut self.memory, &self.decoded, most);
         let Some(slice) = steps.last else {
             return steps;
         };

@@ -17,7 +17,7 @@ run_each-halt-requires g c =
     let within = is_started c.args.hart (record { harts = c.self.inside.harts.items; environment = c.self.inside.env; ending = c.self.inside.end }) c.args.self.now memory (c.self.invariant.whole memory) c.self.view_is c.requires.may in
     let cached = c.requires.cached in
     let same = ap (λ (v : RunningValue). length v.harts) c.self.view_is in
-    record { started = omega (arith, within, cached, same) }
+    record { started = omega (arith, within, cached, same); shows = c.requires.shows }
 
 pub invariant_of-self : goal.invariant_of-self
 invariant_of-self g c = record {

@@ -14,6 +14,11 @@ use Rattle.space_core.proofs.space.Space.run.Given.{Over}
 use Rattle.space_core.proofs.space.Space.run.Goals.{In_default}
 use Rattle.space_core.proofs.space.Space.run.Goals as goal
 
+pub run-steps-requires-clause-shows : goal.run-steps-requires-clause-shows
+run-steps-requires-clause-shows g c =
+    let inside : SpaceValue g.row.S.Denot = record { image = c.self.inside.image; input = c.self.inside.input; running = c.self.inside.recorded.running; schedule = c.self.inside.recorded.schedule; memory = c.self.inside.memory; purged = c.self.inside.purged } in
+    c.self.invariant.code (live_when_may g.S.SwapSlot.content c.args.hart inside (ap (λ (s : SpaceValue g.row.S.Denot). may_step c.args.hart (shown_process g.S.SwapSlot.content s)) c.self.view_is ∙ c.requires.may))
+
 pub add_harts-requires-clause-more : goal.add_harts-requires-clause-more
 add_harts-requires-clause-more g c =
     let inside : SpaceValue g.row.S.Denot = record { image = c.self.inside.image; input = c.self.inside.input; running = c.self.inside.recorded.running; schedule = c.self.inside.recorded.schedule; memory = c.self.inside.memory; purged = c.self.inside.purged } in

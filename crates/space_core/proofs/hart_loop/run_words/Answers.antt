@@ -3,7 +3,7 @@ use Rattle.std.proofs.Common.{◌≡◌, ◌-◌, sym, ap, ◌∙◌, subst}
 use Rattle.rv_exec.specs.Registers.{with_pc}
 use Rattle.rv_exec.specs.RegistersLaws.{own_pc}
 use Rattle.space_core.specs.HartLoop.{RunsUntil}
-use Rattle.space_core.proofs.hart_loop.run_each.Goals as goal
+use Rattle.space_core.proofs.hart_loop.run_words.Goals as goal
 
 pub returns-clause-ran : goal.returns-clause-ran
 returns-clause-ran g c =

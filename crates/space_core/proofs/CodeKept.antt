@@ -1,7 +1,6 @@
 -- Pages that may not be written stay as they are by runs of a flat process.
-use Rattle.std.proofs.Common.{◌≡◌, [], ◌∷◌, ℕ, zero, suc, Bool, true, false, List, Option, Some, None, option_map, option_and_then, if◌then◌else◌, replicate, ap, ◌∙◌, refl, sym, subst}
+use Rattle.std.proofs.Common.{◌≡◌, [], ◌∷◌, ℕ, zero, suc, Bool, true, false, List, Option, Some, None, option_map, option_and_then, if◌then◌else◌, replicate, refl, sym, subst}
 use Rattle.std.proofs.lemmas.Option.{none-some, same_Some}
-use Rattle.page_memory.specs.Memory.{Memory}
 use Rattle.page_memory.specs.ReadOnly.{KeepsReadOnly}
 use Rattle.page_memory.proofs.KeptPages.{kept_itself, kept_on}
 use Rattle.rv_exec.specs.Registers.{Registers}

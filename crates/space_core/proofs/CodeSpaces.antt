@@ -1,10 +1,9 @@
 -- What was decoded of a process's pages is what its memory has, until it ends.
-use Rattle.std.proofs.Common.{◌≡◌, [], ℕ, true, List, Option, Some, None, ap, ◌∙◌, refl, sym, subst}
+use Rattle.std.proofs.Common.{◌≡◌, ℕ, true, List, Option, Some, None, ap, ◌∙◌, sym, subst}
 use Rattle.std.specs.Prelude.{IfSome, IfNone}
 use Rattle.std.specs.Option.{option_or}
 use Rattle.std.proofs.lemmas.Option.{none-some}
 use Rattle.frame_pool.specs.FrameValue.{FrameValue}
-use Rattle.page_memory.specs.Memory.{Memory}
 use Rattle.page_memory.specs.ReadOnly.{KeepsReadOnly}
 use Rattle.decoded_pages.specs.declared.pages.DecodedPages.{DecodedPages}
 use Rattle.decoded_pages.specs.Code.{ShowsAll}

@@ -1,20 +1,19 @@
 -- A run of decoded instructions is a hart's instructions one after another.
-use Rattle.std.proofs.Common.{◌≡◌, ◌<◌, ◌≤◌, ◌+◌, ◌^◌, ℕ, zero, suc, List, All, slice_index_or, true, refl, sym, ap, ◌∙◌, subst, inl, inr, arith}
+use Rattle.std.proofs.Common.{◌≡◌, ◌<◌, ◌+◌, ℕ, zero, suc, List, sym, ap, ◌∙◌, subst, arith}
 use Rattle.page_memory.specs.ReadOnly.{KeepsReadOnly}
 use Rattle.page_memory.proofs.KeptPages.{kept_itself, kept_on}
-use Rattle.decoded_pages.specs.Running.{Iterates, IsServed, Steps}
+use Rattle.decoded_pages.specs.Running.{Iterates, Steps}
 use Rattle.decoded_pages.proofs.Keeping.{next_keeps}
 use Rattle.rv_exec.specs.declared.outcome.Outcome.{Outcome}
 use Rattle.rv_exec.specs.declared.outcome.Outcome.TheVariants.{Done, Ecall, Trap, Absent}
 use Rattle.rv_exec.specs.Registers.{Registers}
-use Rattle.rv_exec.specs.Uses.{pages_used, pages_stored}
 use Rattle.paged_memory.specs.Coheres.{Coheres}
 use Rattle.paged_memory.specs.HartMemory.{MarksWithin}
 use Rattle.paged_memory.specs.Paged.{PagedValue, memory_of}
 use Rattle.paged_memory.specs.Ready.{ServesIn, KeepsReady}
 use Rattle.paged_memory.specs.ReadyLaws.{marked_still, takes_still}
 use Rattle.paged_memory.specs.Whole.{harts_in}
-use Rattle.space_core.specs.HartLoop.{RunsTo, RunsEach, RunsShort, RunsUntil}
+use Rattle.space_core.specs.HartLoop.{RunsTo, RunsEach, RunsUntil}
 
 module _ {S : Type 0} (held : S → List ℕ) (honest : Type 0) (hart : ℕ) where
   abbrev pub DecodedSteps : Registers × PagedValue S → Registers × PagedValue S → Type 0

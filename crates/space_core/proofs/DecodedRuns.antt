@@ -8,10 +8,10 @@ use Rattle.rv_exec.specs.declared.outcome.Outcome.{Outcome}
 use Rattle.rv_exec.specs.declared.outcome.Outcome.TheVariants.{Done, Ecall, Trap, Absent}
 use Rattle.rv_exec.specs.Registers.{Registers}
 use Rattle.paged_memory.specs.Coheres.{Coheres}
-use Rattle.paged_memory.specs.HartMemory.{MarksWithin}
 use Rattle.paged_memory.specs.Paged.{PagedValue, memory_of}
 use Rattle.paged_memory.specs.Ready.{ServesIn, KeepsReady}
 use Rattle.paged_memory.specs.ReadyLaws.{marked_still, takes_still}
+use Rattle.paged_memory.specs.Using.{MarkedIn}
 use Rattle.paged_memory.specs.Whole.{harts_in}
 use Rattle.space_core.specs.HartLoop.{RunsTo, RunsEach, RunsUntil}
 
@@ -31,7 +31,7 @@ module _ {S : Type 0} (held : S → List ℕ) (honest : Type 0) (hart : ℕ) whe
         λ k d h. (step.used k d h).1.has,
         λ k d h. let serves = (step.used k d h).1 in marked_still hart a.1 b.1 step.stayed (step.used k d h).0 _ serves.small serves.marked,
       );
-      bound = record { bound = λ use_test store_test used stored old. subst (λ (m : PagedValue S). MarksWithin m.tables use_test store_test) (sym step.stayed.only) old };
+      bound = record { bound = λ use_test store_test used stored old. subst (λ (m : PagedValue S). MarkedIn m use_test store_test) (sym step.stayed.only) old };
     };
     leaves = λ k d h. takes_still hart a.1 b.1 step.stayed _ (step.stored k d h);
     kept = step.stayed.kept;

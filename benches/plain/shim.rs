@@ -317,6 +317,10 @@ pub mod fs {
         std::fs::symlink_metadata(name)
     }
 
+    pub fn rename<R: Files>(_: &R, from: &str, to: &str) -> Result<()> {
+        std::fs::rename(from, to)
+    }
+
     pub fn remove_file<R: Files>(_: &R, name: &str) -> Result<()> {
         std::fs::remove_file(name)
     }

@@ -1,11 +1,13 @@
-//! The program `guest`. What it does is the libraries', `guest_cli` and, for `record`, `run_recorder`.
+//! The program `guest`. What it does is the libraries': `guest_cli`, for `record` `run_recorder`, and for `explore` `record_commands`.
 #![tactic(auto)]
 
 use guest_cli::run_guest;
 use guest_frames::PagedMachine;
 use image_files::{Fault, begin, fail};
+use record_commands::explore_program;
 use run_recorder::record_program;
 use stack_room::take_stack_room;
+use std::io::IsTerminal;
 use std::process::ExitCode;
 
 fn main(rt: HostRuntime) -> ExitCode {
@@ -18,9 +20,15 @@ fn main(rt: HostRuntime) -> ExitCode {
         return ExitCode::from(fail("guest", Fault::NoMemory, &mut err));
     }
     let words = words.as_slice();
-    ExitCode::from(match words.first() {
-        Some(first) if first.as_str() == "record" => {
-            record_program(&rt, words, rt.stdin(), &mut out, &mut err)
+    let first = match words.first() {
+        Some(first) => first.as_str(),
+        None => "",
+    };
+    ExitCode::from(match first {
+        "record" => record_program(&rt, words, rt.stdin(), &mut out, &mut err),
+        "explore" => {
+            let is_watched = err.is_terminal();
+            explore_program(&rt, words, rt.stdin(), &mut out, &mut err, is_watched)
         }
         _ => run_guest(&rt, &PagedMachine, words, rt.stdin(), &mut out, &mut err),
     })

@@ -11,8 +11,7 @@ pub(crate) fn guest<'a>(alloc: Global) -> Result<Command<'a>, AllocError> {
     let app = with(app, trace(alloc));
     let app = with(app, profile(alloc));
     let app = with(app, debug(alloc));
-    let app = with(app, replay(alloc));
-    with(app, explore(alloc))
+    with(app, replay(alloc))
 }
 
 /// The program with another command, where both could be made.
@@ -57,16 +56,6 @@ fn replay<'a>(alloc: Global) -> Result<Command<'a>, AllocError> {
         alloc,
         with_arg(command, Arg::new(alloc, "record").required(true)),
     )
-}
-
-fn explore<'a>(alloc: Global) -> Result<Command<'a>, AllocError> {
-    let command = Ok(Command::new(alloc, "explore"));
-    let command = with_arg(command, option(alloc, "runs"));
-    let command = with_arg(command, option(alloc, "seed"));
-    let command = with_arg(command, option(alloc, "until"));
-    let command = with_arg(command, option(alloc, "limit"));
-    let command = with_arg(command, option(alloc, "save"));
-    image(alloc, with_arg(command, flag(alloc, "csv")))
 }
 
 /// The command with the image that it runs.

@@ -145,6 +145,11 @@ impl Tables {
         for row in self.functions.as_slice() {
             starts.push(row.address).map_err(AllocError::from)?;
         }
+        for row in self.calls.as_slice() {
+            starts.push(row.call.callee).map_err(AllocError::from)?;
+        }
+        starts.sort_unstable();
+        starts.dedup();
         Ok(starts)
     }
 }

@@ -9,7 +9,7 @@ use crate::run_command::run_run;
 use crate::trace_command::run_trace;
 use crate::wrong::Wrong;
 use image_files::{Fault, Folder};
-use record_commands::{run_explore, run_replay};
+use record_commands::run_replay;
 use std::convert::AsStr;
 use std::io::{Read, Write};
 
@@ -98,7 +98,6 @@ where
         Request::Profile(request) => run_profile(rt, request, input, out, err)?,
         Request::Debug(request) => run_debug(rt, machine, request, input, out)?,
         Request::Replay(request) => run_replay(rt, request, input, out, err)?,
-        Request::Explore(request) => run_explore(rt, request, input, out)?,
     })
 }
 

@@ -3,7 +3,7 @@
 ghost use Rattle.std.specs.Prelude.{◌≤◌};
 ghost use Rattle.std.specs.Option.{ForSome};
 
-use record_commands::{ExploreRequest, ReplayRequest};
+use record_commands::ReplayRequest;
 
 /// What is asked for on the command line.
 #[derive(Clone, Copy, Debug)]
@@ -13,7 +13,6 @@ pub(crate) enum Request<'a> {
     Profile(ProfileRequest<'a>),
     Debug(DebugRequest<'a>),
     Replay(ReplayRequest<'a>),
-    Explore(ExploreRequest<'a>),
 }
 
 /// Run a program on standard input.

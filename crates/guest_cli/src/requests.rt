@@ -8,20 +8,13 @@ use crate::wrong::{BadNumber, Wrong};
 use clap::ArgMatches;
 use clap::error::ErrorKind;
 use image_files::Fault;
-use record_commands::{ExploreRequest, ReplayRequest};
+use record_commands::ReplayRequest;
 use std::alloc::Global;
 use std::convert::AsStr;
 use text_lines::numeral;
 
 /// How many rows a table of a profile has where no number is asked for.
 const USUAL_ROWS: u32 = 20;
-
-/// How many runs `explore` does where no number is asked for, the first seed, and after how many steps it ends a run.
-const USUAL_RUNS: u32 = 100;
-
-const USUAL_SEED: u32 = 1;
-
-const USUAL_LIMIT: u64 = 1_000_000;
 
 /// The request that the words behind the program's name make.
 pub(crate) fn read_request<'a, S: AsStr>(
@@ -41,7 +34,6 @@ fn request_of<'a>(matches: &ArgMatches<'a>) -> Result<Request<'a>, BadNumber<'a>
         Some(("trace", matches)) => Ok(Request::Trace(trace_request(matches)?)),
         Some(("profile", matches)) => Ok(Request::Profile(profile_request(matches)?)),
         Some(("replay", matches)) => Ok(Request::Replay(replay_request(matches))),
-        Some(("explore", matches)) => Ok(Request::Explore(explore_request(matches)?)),
         Some((_, matches)) => Ok(Request::Debug(debug_request(matches)?)),
         None => Ok(Request::Debug(debug_request(matches)?)),
     }
@@ -111,18 +103,6 @@ fn replay_request<'a>(matches: &ArgMatches<'a>) -> ReplayRequest<'a> {
         record: word(matches, "record"),
         image: image(matches),
     }
-}
-
-fn explore_request<'a>(matches: &ArgMatches<'a>) -> Result<ExploreRequest<'a>, BadNumber<'a>> {
-    Ok(ExploreRequest {
-        runs: number(matches, "runs", 1, u32::MAX)?.unwrap_or(USUAL_RUNS),
-        seed: number(matches, "seed", 0, u32::MAX)?.unwrap_or(USUAL_SEED),
-        until: number(matches, "until", 1, u32::MAX)?,
-        limit: steps_or(matches, "limit", USUAL_LIMIT)?,
-        folder: matches.get_str("save"),
-        is_csv: is_given(matches, "csv"),
-        image: image(matches),
-    })
 }
 
 /// The image's name.

@@ -5,7 +5,9 @@ ghost use Rattle.flat_machine.specs.Process.{flat_run};
 ghost use Rattle.flat_machine.specs.Schedule.{written_out};
 ghost use Rattle.guest_records.specs.GoingOn.{GoesOn};
 
-use crate::random_turns::RandomTurns;
+use crate::chosen_turn::{Chooser, ChosenTurn};
+use crate::live_harts::count_started;
+use crate::waiting::is_yield;
 use flat_machine::{FlatProcess, KillCause, Schedule};
 
 /// How far a process ran, and what stopped it, if it has not ended.
@@ -20,7 +22,7 @@ pub(crate) struct Ran {
 pub(crate) fn run_chosen(
     process: &mut FlatProcess,
     schedule: &mut Schedule,
-    turns: &mut RandomTurns,
+    turns: &mut Chooser,
     limit: u64,
 ) -> Ran
     ensures ran { GoesOn schedule.old process.old schedule.new process.new result.steps }
@@ -31,9 +33,9 @@ pub(crate) fn run_chosen(
         if process.end().is_some() {
             break;
         }
-        let turn = turns.choose(process);
-        let most = fewer(turn.count, limit - steps);
-        let done = take_turn(process, schedule, turn.hart, most);
+        let mut turn = turns.choose(process, steps);
+        turn.most = fewer(turn.most, limit - steps);
+        let done = take_turn(process, schedule, turn);
         steps += u64::from(done);
         if done == 0 {
             return Ran {
@@ -57,16 +59,54 @@ fn stopped_by(schedule: &Schedule, hart: u32) -> KillCause {
     }
 }
 
-/// Runs a hart so many times at most, as long as it steps and its schedule takes it. Answers how often it did.
-fn take_turn(process: &mut FlatProcess, schedule: &mut Schedule, hart: u32, most: u32) -> u32
+/// Runs a hart's turn, as long as it steps and its schedule takes it. Answers how many steps that is.
+fn take_turn(process: &mut FlatProcess, schedule: &mut Schedule, turn: ChosenTurn) -> u32
+    ensures ran { flat_run (replicate result turn.hart) process.old ≡ Some process.new }
+    ensures recorded { written_out schedule.new ≡ written_out schedule.old ++ replicate result
+        turn.hart }
+    ensures within { result ≤ turn.most }
+{
+    let most = fewer(turn.most, schedule.room(turn.hart));
+    let done = step_turn(process, turn.hart, most, turn.is_cut);
+    schedule.record(turn.hart, done);
+    done
+}
+
+/// Steps a hart so many times at most, as long as it steps, or its turn is not cut. Answers how often it did.
+fn step_turn(process: &mut FlatProcess, hart: u32, most: u32, is_cut: bool) -> u32
     ensures ran { flat_run (replicate result hart) process.old ≡ Some process.new }
-    ensures recorded { written_out schedule.new ≡ written_out schedule.old ++ replicate result hart }
     ensures within { result ≤ most }
 {
-    let most = fewer(most, schedule.room(hart));
-    let done = repeat(process, hart, most);
-    schedule.record(hart, done);
-    done
+    if is_cut {
+        repeat_to_call(process, hart, most)
+    } else {
+        repeat(process, hart, most)
+    }
+}
+
+/// Steps a hart so many times at most, as long as it steps, up to where it is to yield again or has started a hart. Answers how often it did.
+#[tactic(auto, using(flat_machine::specs::RunLaws::one_more_step, flat_machine::specs::RunLaws::flat_run_none))]
+fn repeat_to_call(process: &mut FlatProcess, hart: u32, most: u32) -> u32
+    ensures ran { flat_run (replicate result hart) process.old ≡ Some process.new }
+    ensures within { result ≤ most }
+{
+    let next = count_started(process);
+    for done in 0..most {
+        if done > 0 && is_call_reached(process, hart, next) {
+            return done;
+        }
+        if process.step(hart).is_err() {
+            return done;
+        }
+    }
+    most
+}
+
+/// Whether a hart is to yield, or another one was started.
+fn is_call_reached(process: &mut FlatProcess, hart: u32, next: u32) -> bool
+    ensures same { process.new ≡ process.old }
+{
+    process.regs(next).is_some() || is_yield(process, hart)
 }
 
 /// Steps a hart so many times at most, as long as it steps. Answers how often it did.

@@ -7,13 +7,14 @@ ghost use Rattle.run_records.specs.Records.{value_of};
 ghost use Rattle.run_records.specs.Replaying.{EndsLike, Replays};
 
 use crate::chosen_run::{Ran, run_chosen};
-use crate::random_turns::RandomTurns;
+use crate::chosen_turn::Chooser;
+use crate::way::Way;
 use elf_image::Image;
 use flat_machine::{End, FlatProcess, Schedule};
 use run_records::{Closing, Fingerprint, Record, take_fingerprint};
 use std::alloc::{AllocError, Global};
 
-/// Runs an image on an input by turns that a seed chooses, up to so many steps, and tells the run as a record: it names the file of the
+/// Runs an image on an input by turns that a seed chooses in such a way, up to so many steps, and tells the run as a record: it names the file of the
 /// image by its fingerprint, and replays.
 pub fn explore_run(
     alloc: Global,
@@ -21,6 +22,7 @@ pub fn explore_run(
     file: Fingerprint,
     input: Vec<u8>,
     seed: u64,
+    way: Way,
     limit: u64,
 ) -> Result<Record, AllocError>
     ensures image { IfOk result (λ told. told.image ≡ file) }
@@ -31,7 +33,7 @@ pub fn explore_run(
     let input_print = take_fingerprint(input.as_slice());
     let mut process = FlatProcess::new(alloc, image, input)?;
     let mut schedule = Schedule::new(alloc)?;
-    let mut turns = RandomTurns::new(seed);
+    let mut turns = Chooser::new(alloc, way, seed)?;
     let ran = run_chosen(&mut process, &mut schedule, &mut turns, limit);
     let kept = Vec::from_slice(alloc, schedule.turns())?;
     Ok(Record {

@@ -1,2 +1,4 @@
 pub mod Places
+pub mod RowTexts
+pub mod SavedRows
 pub mod SoFar

@@ -1,5 +1,5 @@
 -- What the runs of a program by schedules come to.
-use Rattle.std.specs.Prelude.{◌≡◌, ℕ, ◌≤◌, ◌⊎◌, ⊤, List, [], ◌∷◌, length, Option}
+use Rattle.std.specs.Prelude.{◌≡◌, ℕ, ◌≤◌, ◌⊎◌, ⊤, List, [], ◌∷◌, length, Option, option_map}
 use Rattle.elf_image.specs.Image.{ImageContent}
 use Rattle.flat_machine.specs.Process.{Process, opening}
 use Rattle.image_files.specs.Reading.{HoldsImage}
@@ -10,6 +10,8 @@ use Rattle.run_records.specs.Replaying.{Replays}
 use Rattle.run_records.specs.declared.fingerprint.Fingerprint.{Fingerprint}
 use Rattle.run_records.specs.declared.record.Closing.{Closing}
 use Rattle.record_commands.specs.Rows.{GoesOn, IsLike, Tallies}
+use Rattle.record_commands.specs.Saved.{AreSaved}
+use Rattle.record_commands.specs.declared.request.ExploreRequest.{ExploreRequest}
 use Rattle.record_commands.specs.declared.row.Row.{Row}
 
 -- some flat run of an image on an input came to this: its record, which names the image's file and the input, replays
@@ -31,22 +33,22 @@ unfoldable pub AllRowsCame : ImageContent → List ℕ → Fingerprint → List 
 AllRowsCame image input file [] = ⊤
 AllRowsCame image input file (row ∷ rows) = ((closing : Closing) × (CameTo image input file closing × IsLike closing row)) × AllRowsCame image input file rows
 
--- rows count so many runs, from this seed on, or fewer where as many rows came as are wanted
-pub record IsExplored (image : ImageContent) (input : List ℕ) (file : Fingerprint) (runs seed : ℕ) (until : Option ℕ) (rows : List Row) : Type 0 where
+-- Rows count so many runs, from a seed on, or fewer where as many rows came as are wanted. Each is saved. `takes` tells, of a name, of which bytes
+-- a file of it was made.
+pub record IsExplored (takes : List ℕ → List ℕ → Type 0) (request : ExploreRequest) (image : ImageContent) (input : List ℕ) (file : Fingerprint) (rows : List Row) : Type 0 where
   pub closings : List Closing
   pub came : AllCame image input file closings
-  pub tallied : Tallies until seed closings rows
-  pub within : length closings ≤ runs
-  pub over : (length closings ≡ runs) ⊎ (¬ GoesOn until rows)
+  pub tallied : Tallies request.until request.seed closings rows
+  pub within : length closings ≤ request.runs
+  pub over : (length closings ≡ request.runs) ⊎ (¬ GoesOn request.until rows)
+  pub saved : AreSaved takes image input file (option_map (λ s. s.now) request.folder) rows
 
--- `gives` tells, of a name, the bytes that a file of it may be found to hold
-module _ (gives : List ℕ → List ℕ → Type 0) where
-  -- rows count the runs of the named image on the whole input
-  pub record Explores (name : List ℕ) (runs seed : ℕ) (until : Option ℕ) (known : Option (List ℕ)) (rows : List Row) : Type 0 where
-    pub file : List ℕ
-    pub file_given : gives name file
-    pub image : ImageContent
-    pub holds : HoldsImage file image
-    pub input : List ℕ
-    pub input_whole : AreWhole known input
-    pub explored : IsExplored image input (print_of file) runs seed until rows
+-- rows count the runs of the named image on the whole input; `gives` tells, of a name, the bytes that a file of it may be found to hold
+pub record Explores (gives takes : List ℕ → List ℕ → Type 0) (request : ExploreRequest) (known : Option (List ℕ)) (rows : List Row) : Type 0 where
+  pub file : List ℕ
+  pub file_given : gives request.image.now file
+  pub image : ImageContent
+  pub holds : HoldsImage file image
+  pub input : List ℕ
+  pub input_whole : AreWhole known input
+  pub explored : IsExplored takes request image input (print_of file) rows

@@ -1,4 +1,6 @@
 pub mod Rows
 pub mod RowLaws
+pub mod Saved
+pub mod Tables
 pub mod Exploring
 pub mod Replayed

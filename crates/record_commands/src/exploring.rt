@@ -1,19 +1,24 @@
 //! Runs by schedules that are chosen at random, and what they came to.
 
-ghost use Rattle.std.specs.Prelude.{◌≡◌, ◌↔◌, IsTrue, IfOk};
-ghost use Rattle.record_commands.specs.Exploring.{CameTo, IsExplored};
-ghost use Rattle.record_commands.specs.Rows.{GoesOn};
+ghost use Rattle.std.specs.Prelude.{◌≡◌, ◌<◌, ◌^◌, ◌↔◌, IsTrue, IfOk, OnOk, option_map};
+ghost use Rattle.run_records.specs.Records.{value_of};
+ghost use Rattle.record_commands.specs.Exploring.{IsExplored};
+ghost use Rattle.record_commands.specs.Rows.{Counts, GoesOn, times_of};
+ghost use Rattle.record_commands.specs.Saved.{AreNoted, IsRunOf};
 
 use crate::fault::RecordsFault;
-use crate::request::ExploreRequest;
+use crate::progress::show_progress;
+use crate::request::{By, ExploreRequest};
 use crate::row::Row;
 use crate::saving::save;
 use crate::table::count;
 use elf_image::Image;
-use guest_records::explore_run;
+use guest_io::WholeFiles;
+use guest_records::{Way, count_usual_steps, explore_run};
 use image_files::Folder;
 use run_records::{Fingerprint, Record};
 use std::alloc::{AllocError, Global};
+use std::io::Write;
 
 /// A program on an input.
 #[derive(Clone, Copy)]
@@ -26,27 +31,64 @@ pub(crate) struct Program<'p> {
 
 /// Runs a program by as many seeds as are asked for, and tells what the runs came to. Saves the record of the first run of each row, as
 /// soon as it is there.
-pub(crate) fn explore<'a, R: Folder + AllocGlobal>(
+pub(crate) fn explore<'a, R: Folder + WholeFiles + AllocGlobal, E: Write>(
     rt: &R,
     program: &Program<'_>,
     request: &ExploreRequest<'a>,
+    err: &mut E,
 ) -> Result<Vec<Row>, RecordsFault<'a>>
-    ensures { IfOk result (λ rows. IsExplored program.now.image.now program.now.input.now
-        program.now.file request.now.runs request.now.seed
-        request.now.until rows.items) }
+    ensures { IfOk result (λ rows. IsExplored R.takes request.now program.now.image.now
+        program.now.input.now program.now.file rows.items) }
 {
+    let way = way_of(rt.alloc(), program, request)?;
     let mut rows = Vec::new(rt.alloc());
     'runs: for done in 0..request.runs {
         if !goes_on(request.until, rows.as_slice()) {
             return Ok(rows);
         }
-        let seed = u64::from(request.seed) + u64::from(done);
-        let told = run_once(rt.alloc(), program, seed, request.limit)?;
-        if count(&mut rows, seed, &told.closing)? {
-            save(rt, request.folder, seed, &told)?;
+        if request.is_watched {
+            show_progress(done, request.runs, rows.len(), err);
         }
+        let seed = u64::from(request.seed) + u64::from(done);
+        let told = run_once(rt.alloc(), program, seed, way, request.limit)?;
+        note(rt, request.folder, &mut rows, seed, &told)?;
     }
     Ok(rows)
+}
+
+/// Counts a run, and saves its record where it begins a row.
+fn note<'a, R: Folder + WholeFiles + AllocGlobal>(
+    rt: &R,
+    folder: Option<&'a str>,
+    rows: &mut Vec<Row>,
+    seed: u64,
+    told: &Record,
+) -> Result<(), RecordsFault<'a>>
+    requires few { times_of rows.old.items < 2 ^ 63 }
+    ensures counts { OnOk result (Counts seed told.now.closing rows.old.items rows.new.items) }
+    ensures saved { OnOk result (AreNoted R.takes (option_map (λ s. s.now) folder.entry)
+        (value_of told.now) rows.old.items rows.new.items) }
+{
+    if count(rows, seed, &told.closing)? {
+        save(rt, folder, seed, told)?;
+    }
+    Ok(())
+}
+
+/// How turns are chosen: by priorities for runs of as many steps as the program takes by turns of one instruction.
+fn way_of(
+    alloc: Global,
+    program: &Program<'_>,
+    request: &ExploreRequest<'_>,
+) -> Result<Way, AllocError> {
+    match request.by {
+        By::Turns => Ok(Way::Turns),
+        By::Priorities { depth } => {
+            let input = Vec::from_slice(alloc, program.input)?;
+            let steps = count_usual_steps(alloc, program.image, input, request.limit)?;
+            Ok(Way::Priorities { depth, steps })
+        }
+    }
 }
 
 /// Whether rows are fewer than are wanted.
@@ -64,11 +106,12 @@ fn run_once(
     alloc: Global,
     program: &Program<'_>,
     seed: u64,
+    way: Way,
     limit: u64,
 ) -> Result<Record, AllocError>
-    ensures { IfOk result (λ told. CameTo program.now.image.now program.now.input.now
-        program.now.file told.closing) }
+    ensures { IfOk result (λ told. IsRunOf program.now.image.now program.now.input.now
+        program.now.file (value_of told)) }
 {
     let input = Vec::from_slice(alloc, program.input)?;
-    explore_run(alloc, program.image, program.file, input, seed, limit)
+    explore_run(alloc, program.image, program.file, input, seed, way, limit)
 }

@@ -2,9 +2,13 @@
 #![tactic(auto)]
 
 mod explore_command;
+mod explore_request;
+mod explore_words;
 mod exploring;
 mod fault;
 mod laws;
+mod program;
+mod progress;
 mod replay_command;
 mod request;
 mod row;
@@ -15,6 +19,7 @@ mod table_text;
 pub use explore_command::run_explore;
 pub use fault::RecordsFault;
 pub use laws::{counts_add_up, rows_come_from_runs};
+pub use program::explore_program;
 pub use replay_command::run_replay;
-pub use request::{ExploreRequest, ReplayRequest};
+pub use request::{By, ExploreRequest, ReplayRequest};
 pub use row::Row;

@@ -1,6 +1,6 @@
 //! Rows, each of another ending or output, in the order in which they came.
 
-ghost use Rattle.std.specs.Prelude.{◌≡◌, ◌<◌, ◌^◌, ◌↔◌, IsTrue, OnOk, MatchOption};
+ghost use Rattle.std.specs.Prelude.{◌≡◌, ◌<◌, ◌^◌, ◌↔◌, false, length, IsTrue, IfOk, OnOk, MatchOption};
 ghost use Rattle.record_commands.specs.Rows.{AreUnlike, Counts, IsFirstLike, times_of};
 
 use crate::row::Row;
@@ -10,7 +10,9 @@ use std::alloc::AllocError;
 /// Counts a run in the row that it is like, or begins a row behind the others. Tells whether it began one.
 pub(crate) fn count(rows: &mut Vec<Row>, seed: u64, closing: &Closing) -> Result<bool, AllocError>
     requires few { times_of rows.old.items < 2 ^ 63 }
-    ensures { OnOk result (Counts seed closing.now rows.old.items rows.new.items) }
+    ensures counts { OnOk result (Counts seed closing.now rows.old.items rows.new.items) }
+    ensures again { IfOk result (λ began. began ≡ false → length rows.new.items ≡ length
+        rows.old.items) }
 {
     match place_of(rows.as_slice(), closing) {
         Some(place) => {
@@ -41,7 +43,8 @@ fn place_of(rows: &[Row], closing: &Closing) -> Option<usize>
 fn count_again(rows: &mut Vec<Row>, seed: u64, closing: &Closing, place: usize)
     requires few { times_of rows.old.items < 2 ^ 63 }
     requires like { IsFirstLike closing.now rows.old.items place }
-    ensures { Counts seed closing.now rows.old.items rows.new.items }
+    ensures counts { Counts seed closing.now rows.old.items rows.new.items }
+    ensures many { length rows.new.items ≡ length rows.old.items }
 {
     rows[place].times += 1;
 }

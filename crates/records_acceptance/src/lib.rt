@@ -3,7 +3,7 @@
 
 use elf_image::Image;
 use flat_machine::{End, FlatProcess};
-use guest_records::explore_run;
+use guest_records::{Way, count_usual_steps, explore_run};
 use run_records::{
     Record, RecordFault, ReplayFault, read_record, replay, take_fingerprint, write_record,
 };
@@ -112,7 +112,7 @@ fn explored_replays(rt: HostRuntime) {
         return;
     };
     let file = take_fingerprint(b"file");
-    let ran = explore_run(alloc, &image, file, Vec::new(alloc), 7, 1000);
+    let ran = explore_run(alloc, &image, file, Vec::new(alloc), 7, Way::Turns, 1000);
     assert_eq!(rt; ran.is_ok(), true);
     let Ok(mut told) = ran else {
         return;
@@ -171,6 +171,30 @@ fn explored_replays(rt: HostRuntime) {
         tried(alloc, &image, &told),
         Some(Err(ReplayFault::OtherEnd))
     );
+}
+
+#[test]
+fn one_hart_has_one_turn(rt: HostRuntime) {
+    let alloc = rt.alloc();
+    let Ok(image) = Image::from_words(alloc, WORDS.as_slice()) else {
+        assert_eq!(rt; "an image", "none");
+        return;
+    };
+    let steps = count_usual_steps(alloc, &image, Vec::new(alloc), 1000);
+    assert_eq!(rt; steps.ok(), Some(9));
+    assert_eq!(rt;
+        count_usual_steps(alloc, &image, Vec::new(alloc), 5).ok(),
+        Some(5)
+    );
+    let file = take_fingerprint(b"file");
+    let way = Way::Priorities { depth: 3, steps: 9 };
+    let Ok(told) = explore_run(alloc, &image, file, Vec::new(alloc), 7, way, 1000) else {
+        assert_eq!(rt; "a record", "none");
+        return;
+    };
+    assert_eq!(rt; told.closing.end, End::Exited(0));
+    assert_eq!(rt; told.turns.len(), 1);
+    assert_eq!(rt; tried(alloc, &image, &told), Some(Ok(())));
 }
 
 /// What a replay of the program answers, where there is memory for it.

@@ -3,4 +3,4 @@ use Rattle.record_commands.proofs.exploring.explore.Given as goal
 
 -- As many runs were counted as are done.
 abbrev pub invariant-runs : goal.invariant-runs
-invariant-runs g l = ExploredSoFar l.program.image.now l.program.input.now l.program.file l.request.seed l.request.until l.done l.rows.items
+invariant-runs g l = ExploredSoFar g.R.WholeFiles.takes l.request l.program.image.now l.program.input.now l.program.file l.done l.rows.items

@@ -14,8 +14,8 @@ overflow_add-index_mut c =
     let same = ap (λ (r : Row). r.times) c.index_mut.ensures.value in
     omega (arith, few, all, same)
 
-pub returns : goal.returns
-returns c =
+pub returns-clause-counts : goal.returns-clause-counts
+returns-clause-counts c =
     let like = c.requires.like in
     let rows = c.args.rows.now.items in
     let same : c.index_mut.result.now ≡ like.row =

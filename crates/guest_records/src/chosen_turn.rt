@@ -1,0 +1,49 @@
+//! Turns that are chosen, one after another.
+
+ghost use Rattle.std.specs.Prelude.{◌≡◌};
+
+use crate::priorities::Priorities;
+use crate::random_turns::RandomTurns;
+use crate::way::Way;
+use flat_machine::FlatProcess;
+use std::alloc::{AllocError, Global};
+
+/// A hart's turn.
+#[derive(Clone, Copy, Debug)]
+pub(crate) struct ChosenTurn {
+    pub(crate) hart: u32,
+    /// The most instructions of it.
+    pub(crate) most: u32,
+    /// Whether it ends before a yield, and behind the start of a hart.
+    pub(crate) is_cut: bool,
+}
+
+/// What chooses turns.
+#[derive(Debug, Drop)]
+pub(crate) enum Chooser {
+    Turns(RandomTurns),
+    Priorities(Priorities),
+}
+
+impl Chooser {
+    /// What is chosen depends on the way and the seed alone, and on the process.
+    pub(crate) fn new(alloc: Global, way: Way, seed: u64) -> Result<Self, AllocError> {
+        match way {
+            Way::Turns => Ok(Chooser::Turns(RandomTurns::new(seed))),
+            Way::Priorities { depth, steps } => {
+                let made = Priorities::new(alloc, depth, steps, seed)?;
+                Ok(Chooser::Priorities(made))
+            }
+        }
+    }
+
+    /// The next turn of a process, of which so many steps are done.
+    pub(crate) fn choose(&mut self, process: &mut FlatProcess, done: u64) -> ChosenTurn
+        ensures same { process.new ≡ process.old }
+    {
+        match self {
+            Chooser::Turns(turns) => turns.choose(process),
+            Chooser::Priorities(priorities) => priorities.choose(process, done),
+        }
+    }
+}

@@ -1,0 +1,20 @@
+//! How many runs are done, on a line of a terminal.
+
+use std::io::Write;
+
+/// The line is written anew behind so many runs.
+const OFTEN: u32 = 16;
+
+/// Shows how many runs are done and how many rows these came to, now and then. Where that can't be written, nothing is lost.
+pub(crate) fn show_progress<E: Write>(done: u32, runs: u32, rows: usize, err: &mut E) {
+    if done % OFTEN == 0 {
+        let _ = write!(err, "\r{done} of {runs} runs, {rows} rows");
+        let _ = err.flush();
+    }
+}
+
+/// Takes the line away.
+pub(crate) fn end_progress<E: Write>(err: &mut E) {
+    let _ = write!(err, "\r\x1b[K");
+    let _ = err.flush();
+}

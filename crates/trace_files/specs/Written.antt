@@ -6,7 +6,7 @@ use Rattle.clock_policy.specs.declared.key.Key.{Key}
 use Rattle.clock_policy.specs.Text.{key_text}
 use Rattle.guest_strings.specs.declared.reference.Reference.{Reference}
 use Rattle.page_policies.specs.Optimal.{next_use}
-use Rattle.trace_files.specs.PageIds.{id_of}
+use Rattle.trace_lines.specs.PageIds.{id_of}
 
 -- time, id and size, which is 1
 abbrev pub csv_row : ℕ → Key → List ℕ

@@ -5,10 +5,10 @@ ghost use Rattle.std.specs.List.{flat_map};
 ghost use Rattle.text_lines.specs.Text.{lines_of};
 ghost use Rattle.clock_policy.specs.declared.key.Key.{Key};
 ghost use Rattle.guest_strings.specs.declared.reference.Reference.{Reference};
-ghost use Rattle.trace_files.specs.PageIds.{page_of_id};
+ghost use Rattle.trace_lines.specs.PageIds.{page_of_id};
 ghost use Rattle.trace_files.specs.Written.{record_bytes, reference_line};
-ghost use Rattle.trace_files.specs.PageLines.{AreReferences, IsPage, line_reference};
-ghost use Rattle.trace_files.specs.PageLines.{record_page};
+ghost use Rattle.trace_lines.specs.PageLines.{AreReferences, IsPage, line_reference};
+ghost use Rattle.trace_lines.specs.PageLines.{record_page};
 
 /// The lines that are written of references are read as these references.
 #[tactic(auto, using(crate::specs::ReadBackLaws::lines_read))]

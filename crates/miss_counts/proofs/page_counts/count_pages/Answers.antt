@@ -2,7 +2,7 @@ use Rattle.std.proofs.Common.{arith}
 use Rattle.std.specs.HashSet.{contains}
 use Rattle.page_policies.specs.Strings.{is_page}
 use Rattle.miss_counts.proofs.Seen.{seen_more, still_whole}
-use Rattle.miss_counts.proofs.guests.count_pages.Goals as goal
+use Rattle.miss_counts.proofs.page_counts.count_pages.Goals as goal
 
 pub pages-preserved : goal.pages-preserved
 pages-preserved c = record {

@@ -2,7 +2,7 @@ use Rattle.std.proofs.Common.{◌≡◌, ◌+◌, ◌≤◌, drop}
 use Rattle.std.specs.HashSet.{contains}
 use Rattle.page_policies.specs.Strings.{is_page}
 use Rattle.miss_counts.specs.FrameNumbers.{first_uses, page_count}
-use Rattle.miss_counts.proofs.guests.count_pages.Given as goal
+use Rattle.miss_counts.proofs.page_counts.count_pages.Given as goal
 
 -- what is counted and what is to come make the whole
 abbrev pub invariant-pages : goal.invariant-pages

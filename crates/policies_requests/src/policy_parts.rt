@@ -44,7 +44,7 @@ pub(crate) fn parts_of(policy: PolicyName) -> &'static str {
             "window and protected from 0 to 100, width 1 or 4, sample from 1 to 1000"
         }
         PolicyName::Random(_) => "seed from 0 to 4294967295",
-        _ => "nothing",
+        _ => "no parameter",
     }
 }
 

@@ -171,37 +171,67 @@ fn write_name<W: Write>(name: &str, wide: usize, out: &mut W) -> io::Result<()> 
 
 fn write_row<W: Write>(row: &TableRow<'_>, printing: Printing, out: &mut W) -> io::Result<()> {
     write!(out, "{:>6}", row.frames)?;
+    let has_shares = has_shares(row, printing);
+    let mut due = Due {
+        columns: 0,
+        share: 0,
+    };
     let mut is_first = true;
     for counted in row.counts {
-        write_count(*counted, is_first, row, printing, out)?;
+        due.add(name_size(counted.policy), is_first, has_shares);
         is_first = false;
+        if let Some(count) = counted.count {
+            write_blanks(due.blanks(), out)?;
+            due = write_count(count, row, printing, out)?;
+        }
     }
     if let Some(misses) = row.optimum {
+        due.add(OPTIMUM.len(), is_first, has_shares);
+        write_blanks(due.blanks(), out)?;
         write_value(misses, row.references, printing, out)?;
     }
     writeln!(out)
 }
 
-/// Writes a policy's count, and how many times the optimum's it is where both are told.
+/// What a row has not written yet: the columns since its last count, of which that count's share took some room.
+#[derive(Clone, Copy)]
+struct Due {
+    columns: usize,
+    share: usize,
+}
+
+impl Due {
+    /// A column is due for a name of so many characters.
+    fn add(&mut self, name: usize, is_first: bool, has_shares: bool) {
+        let wide = if is_first || !has_shares { WIDE } else { WIDER };
+        self.columns = self.columns.saturating_add(wide.max(name.saturating_add(1)));
+    }
+
+    /// How many blanks stand before the count of the last column.
+    fn blanks(&self) -> usize {
+        self.columns.saturating_sub(WIDE).saturating_sub(self.share)
+    }
+}
+
+/// Writes a policy's count, and how many times the optimum's it is where both are printed.
 fn write_count<W: Write>(
-    counted: PolicyCount,
-    is_first: bool,
+    count: u64,
     row: &TableRow<'_>,
     printing: Printing,
     out: &mut W,
-) -> io::Result<()> {
-    let has_shares = has_shares(row, printing);
-    if is_first || !has_shares {
-        write_blanks(name_size(counted.policy).saturating_sub(WIDE - 1), out)?;
-    }
-    let Some(count) = counted.count else {
-        return write_blanks(if has_shares { WIDER } else { WIDE }, out);
-    };
+) -> io::Result<Due> {
     write_value(count, row.references, printing, out)?;
-    match row.optimum {
-        Some(optimum) if has_shares => write_share(count, optimum, out),
-        _ => Ok(()),
+    let mut due = Due {
+        columns: 0,
+        share: 0,
+    };
+    if let Some(optimum) = row.optimum
+        && !printing.is_ratio
+    {
+        write_share(count, optimum, out)?;
+        due.share = WIDER - WIDE;
     }
+    Ok(due)
 }
 
 fn write_value<W: Write>(

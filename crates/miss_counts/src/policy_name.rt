@@ -137,7 +137,7 @@ fn write_part<W: fmt::Write>(
 }
 
 /// Whether one of the policies serves so many frames.
-#[tactic(auto, using(crate::specs::ServingLaws::serving_on))]
+#[tactic(auto, using(crate::specs::ServingLaws::serving_on, crate::specs::ServingLaws::serving_found))]
 pub fn any_serves(policies: &[PolicyName], frames: Frames) -> bool
     ensures { result ≡ any_serves policies.now frames.number }
 {
@@ -150,6 +150,7 @@ pub fn any_serves(policies: &[PolicyName], frames: Frames) -> bool
 }
 
 /// Whether one of them serves one of these numbers of frames.
+#[tactic(auto, using(crate::specs::ServingLaws::served_found))]
 pub fn any_served(policies: &[PolicyName], frames: &[Frames]) -> bool
     ensures { result ≡ any_served policies.now (map (λ f. f.number) frames.now) }
 {

@@ -85,7 +85,7 @@ fn count_kept<'a, B: BufRead + Drop, P: StageListener>(
     play_kept(alloc, string.as_slice(), request, &mut rows)
 }
 
-/// Plays a string. What the first references miss that are skipped is not told.
+/// Plays a string. What the first references miss that are skipped is left out.
 fn play_kept<'a>(
     alloc: Global,
     string: &[Key],
@@ -116,7 +116,7 @@ fn count_as_it_comes<'a, B: BufRead + Drop, P: StageListener>(
     play_rest(alloc, trace, request, &mut rows, progress)
 }
 
-/// Plays the whole trace. What the first references miss that are skipped is not told.
+/// Plays the whole trace. What the first references miss that are skipped is left out.
 fn play_rest<'a, B: BufRead + Drop, P: StageListener>(
     alloc: Global,
     trace: &mut TraceFile<'a, B>,

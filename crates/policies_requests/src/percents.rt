@@ -6,7 +6,7 @@ use text_lines::numeral;
 /// How many millionths a hundredth is.
 const HUNDREDTH: u32 = 10_000;
 
-/// A percentage above 0 and up to 100, with four places behind its point at most: `10%`, `0.1%`.
+/// A percentage above 0 and up to 100, with four places after its point at most: `10%`, `0.1%`.
 pub(crate) fn part_in(word: &str) -> Option<FootprintPart> {
     let number = word.strip_suffix('%')?;
     let millionths = match number.split_once('.') {
@@ -23,7 +23,7 @@ fn hundredths(number: &str) -> Option<u32> {
     numeral(number.as_bytes(), 10, 100)?.checked_mul(HUNDREDTH)
 }
 
-/// What stands behind the point, in millionths.
+/// What stands after the point, in millionths.
 fn rest(places: &str) -> Option<u32> {
     let unit = match places.len() {
         1 => 1000,

@@ -1,4 +1,4 @@
-//! How policies are asked for: what stands behind their names in a list.
+//! The parameters of policies in a list.
 
 use miss_counts::PolicyName;
 use text_lines::numeral;
@@ -34,7 +34,7 @@ pub(crate) fn policy_named(name: &str) -> Option<PolicyName> {
     None
 }
 
-/// What may stand behind the name of a policy.
+/// Which parameters a policy may have.
 pub(crate) fn parts_of(policy: PolicyName) -> &'static str {
     match policy {
         PolicyName::TwoQueues(_) => "kin from 0 to 99, kout from 0 to 1000",

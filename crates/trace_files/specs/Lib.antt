@@ -3,3 +3,4 @@ pub mod ReferenceAnswers
 pub mod Written
 pub mod WrittenLaws
 pub mod ReadBackLaws
+pub mod CsvBackLaws

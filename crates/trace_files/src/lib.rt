@@ -12,7 +12,10 @@ mod whole_trace;
 mod writing;
 
 pub use fault::TraceFault;
-pub use laws::{ids_have_pages_of_their_own, written_lines_are_read, written_records_are_read};
+pub use laws::{
+    ids_have_pages_of_their_own, written_lines_are_read, written_records_are_read,
+    written_rows_are_read,
+};
 pub use trace_file::{BLOCK, TraceFile, open_trace};
 pub use trace_lines::{Compression, IdColumn, TraceFormat};
 pub use whole_trace::{read_references, read_sample, read_whole};

@@ -18,7 +18,7 @@ before_more i string d h = rw add-one (from i string d h)
     from zero (r ∷ rs) d h = refl
     from (suc i) (r ∷ rs) d h = ap (λ (l : List Key). r.page ∷ l) (from i rs d (omega (arith, h)))
 
--- what the policy misses of a string that begins with these pages, told of all that is counted behind them
+-- what the policy misses of a string that begins with these pages, by all that is counted after them
 abbrev pub Follows : (List Key → ℕ) → List Key → (List Key → ℕ) → Type 0
 Follows misses_of begun all = (string : List Key) → misses_of (begun ++ string) ≡ all string
 

@@ -77,7 +77,6 @@ pub fn frames_for(
 }
 
 /// The numbers of frames for a string. Its pages are counted where that matters.
-#[tactic(auto, using(crate::proofs::Sizes::without_parts))]
 pub fn frames_for_string(
     alloc: Global,
     sizes: &[TableSize],

@@ -106,7 +106,12 @@ fn write_lirs<W: fmt::Write>(shares: LirsShares, f: &mut fmt::Formatter<W>) -> f
 fn write_s3_fifo<W: fmt::Write>(shares: S3FifoShares, f: &mut fmt::Formatter<W>) -> fmt::Result {
     let usual = S3FifoShares::USUAL;
     write_part("small", u64::from(shares.small), u64::from(usual.small), f)?;
-    write_part("ghost", u64::from(shares.ghosts), u64::from(usual.ghosts), f)?;
+    write_part(
+        "ghost",
+        u64::from(shares.ghosts),
+        u64::from(usual.ghosts),
+        f,
+    )?;
     match shares.moved {
         MovedCount::Keep => Ok(()),
         MovedCount::Clear => f.write_str(":moved=clear"),
@@ -115,12 +120,27 @@ fn write_s3_fifo<W: fmt::Write>(shares: S3FifoShares, f: &mut fmt::Formatter<W>)
 
 fn write_tiny_lfu<W: fmt::Write>(shares: TinyLfuShares, f: &mut fmt::Formatter<W>) -> fmt::Result {
     let usual = TinyLfuShares::USUAL;
-    write_part("window", u64::from(shares.window), u64::from(usual.window), f)?;
-    write_part("protected", u64::from(shares.protected), u64::from(usual.protected), f)?;
+    write_part(
+        "window",
+        u64::from(shares.window),
+        u64::from(usual.window),
+        f,
+    )?;
+    write_part(
+        "protected",
+        u64::from(shares.protected),
+        u64::from(usual.protected),
+        f,
+    )?;
     if shares.width == SketchWidth::Four {
         f.write_str(":width=4")?;
     }
-    write_part("sample", u64::from(shares.sample), u64::from(usual.sample), f)
+    write_part(
+        "sample",
+        u64::from(shares.sample),
+        u64::from(usual.sample),
+        f,
+    )
 }
 
 /// What is asked for by this name, where it is not the usual.

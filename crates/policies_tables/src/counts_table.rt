@@ -204,7 +204,9 @@ impl Due {
     /// A column is due for a name of so many characters.
     fn add(&mut self, name: usize, is_first: bool, has_shares: bool) {
         let wide = if is_first || !has_shares { WIDE } else { WIDER };
-        self.columns = self.columns.saturating_add(wide.max(name.saturating_add(1)));
+        self.columns = self
+            .columns
+            .saturating_add(wide.max(name.saturating_add(1)));
     }
 
     /// How many blanks stand before the count of the last column.

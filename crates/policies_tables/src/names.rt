@@ -2,10 +2,9 @@
 
 use crate::numbers::write_blanks;
 use miss_counts::PolicyName;
-use std::fmt;
 use std::fmt::Write as FmtWrite;
-use std::io;
 use std::io::Write;
+use std::{fmt, io};
 
 /// Counts the characters that are written, which are all of one byte.
 #[derive(Drop)]

@@ -59,7 +59,9 @@ impl TinyLfuShares {
 
     /// The least and the greatest that may be asked for.
     pub const WINDOW: (u32, u32) = (0, 100);
+
     pub const PROTECTED: (u32, u32) = (0, 100);
+
     pub const SAMPLE: (u32, u32) = (1, 1000);
 
     /// Of so many frames, rounded down.

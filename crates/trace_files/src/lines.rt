@@ -18,8 +18,9 @@ use crate::fault::TraceFault;
 use crate::pieces::Pieces;
 use std::alloc::{AllocError, Global};
 use std::io::BufRead;
-use trace_lines::{LineReferences, TraceFormat, TraceLine, compression_at, format_behind};
-use trace_lines::{said, shows_text};
+use trace_lines::{
+    LineReferences, TraceFormat, TraceLine, compression_at, format_behind, said, shows_text,
+};
 
 /// How many characters of a bad line are told.
 const SHOWN: usize = 60;

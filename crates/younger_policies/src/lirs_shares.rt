@@ -25,6 +25,7 @@ impl LirsShares {
 
     /// The least and the greatest that may be asked for.
     pub const HIRS: (u32, u32) = (0, 99);
+
     pub const FLOOR: (u32, u32) = (1, 1000);
 
     /// Of so many frames, rounded down.

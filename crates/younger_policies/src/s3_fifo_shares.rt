@@ -42,6 +42,7 @@ impl S3FifoShares {
 
     /// The least and the greatest that may be asked for.
     pub const SMALL: (u32, u32) = (1, 99);
+
     pub const GHOSTS: (u32, u32) = (0, 1000);
 
     /// Of so many frames, rounded down.

@@ -26,6 +26,7 @@ impl TwoQueueShares {
 
     /// The least and the greatest that may be asked for.
     pub const KIN: (u32, u32) = (0, 99);
+
     pub const KOUT: (u32, u32) = (0, 1000);
 
     /// Of so many frames, rounded down.

@@ -14,7 +14,7 @@ references-init g c = record {
 
 pub references-preserved : goal.references-preserved
 references-preserved g c =
-    let t = reference_more (g.C.Counting.all c.args.player.now) (g.C.Counting.all c.references.player) (g.C.Counting.all c.misses_one.new.player) c.args.string.now c.references.reference-index _ c.in_ok-is_miss.field-0
+    let t = reference_more (g.C.Counting.all c.args.player.now) (g.C.Counting.all c.references.player) (g.C.Counting.all c.misses_one.new.player) c.args.string.now c.references.reference-index _ c.in_ok-is_miss.is_miss
     (contains is_page c.references.dirty) (contains is_page c.note.new.dirty) c.references.count c.in_ok-count.field-0 _ c.references-test.true c.references.invariant.follows
     (c.in_ok-is_miss.ensures.goes_on (omega (arith, c.references.invariant.short, c.references-test.true))) c.in_ok-is_miss.ensures.miss
     c.in_ok-count.ensures.count c.in_ok-count.ensures.dirty c.references.invariant.whole in

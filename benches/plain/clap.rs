@@ -78,6 +78,11 @@ impl<'a> Arg<'a> {
         Arg { action, ..self }
     }
 
+    /// Here no option's help is shown.
+    pub fn help(self, _: &'a str) -> Self {
+        self
+    }
+
     /// As a fault names it.
     /// Whether a word names this option.
     fn is_named(&self, word: &str) -> bool {

@@ -1,5 +1,5 @@
 mod Doublings
 mod Powers
 mod Seen
-mod Serving
+mod Sizes
 pub mod Floors

@@ -1,5 +1,5 @@
 -- What each policy misses, by its name.
-use Rattle.std.specs.Prelude.{◌≡◌, ℕ, ◌&&◌, Bool, true, false, nat_le, List, [], ◌∷◌, length, Option, Some, None, map}
+use Rattle.std.specs.Prelude.{◌≡◌, ℕ, ◌&&◌, ◌||◌, Bool, true, false, nat_le, List, [], ◌∷◌, length, Option, Some, None, map}
 use Rattle.clock_policy.specs.FrameCounts.{least_frames, most_frames}
 use Rattle.clock_policy.specs.declared.key.Key.{Key}
 use Rattle.page_policies.specs.declared.frames.Frames.{Frames}
@@ -27,13 +27,13 @@ misses_of Clock frames string = clock_misses frames string
 misses_of Lru frames string = lru_misses frames string
 misses_of ClockProUsed frames string = clock_pro_used_misses frames string
 misses_of ClockPro frames string = clock_pro_misses frames string
-misses_of TwoQueues frames string = two_queues_misses frames string
-misses_of Lirs frames string = lirs_misses frames string
+misses_of (TwoQueues shares) frames string = two_queues_misses shares frames string
+misses_of (Lirs shares) frames string = lirs_misses shares frames string
 misses_of Arc frames string = arc_misses frames string
 misses_of Sieve frames string = sieve_misses frames string
-misses_of S3Fifo frames string = s3_fifo_misses frames string
-misses_of WTinyLfu frames string = w_tiny_lfu_misses frames string
-misses_of Random frames string = random_misses frames string
+misses_of (S3Fifo shares) frames string = s3_fifo_misses shares frames string
+misses_of (WTinyLfu shares) frames string = w_tiny_lfu_misses shares frames string
+misses_of (Random seed) frames string = random_misses seed frames string
 
 -- whether so many frames are what a machine may have, and the list of CLOCK-Pro
 abbrev pub is_machines : ℕ → Bool
@@ -45,26 +45,30 @@ serves ClockProUsed n = is_machines n
 serves ClockPro n = is_machines n
 serves policy n = true
 
--- whether each of the policies serves so many frames
-abbrev pub all_serve : List PolicyName → ℕ → Bool
-all_serve [] n = true
-all_serve (p ∷ ps) n = serves p n && all_serve ps n
+-- whether one of the policies serves so many frames
+abbrev pub any_serves : List PolicyName → ℕ → Bool
+any_serves [] n = false
+any_serves (p ∷ ps) n = serves p n || any_serves ps n
 
--- whether each of them serves each of these numbers of frames
-abbrev pub each_serves : List PolicyName → List Frames → Bool
-each_serves policies [] = true
-each_serves policies (f ∷ fs) = all_serve policies f.number && each_serves policies fs
+-- whether one of them serves one of these numbers of frames
+abbrev pub any_served : List PolicyName → List ℕ → Bool
+any_served policies [] = false
+any_served policies (n ∷ ns) = any_serves policies n || any_served policies ns
 
--- a count where it is asked for
+-- whether anything is counted with one of these numbers of frames: the optimum serves all of them
+abbrev pub is_counted : PolicySet → List ℕ → Bool
+is_counted wanted numbers = wanted.optimum || any_served wanted.policies.items numbers
+
+-- a count, where there is one
 abbrev pub asked : Bool → ℕ → Option ℕ
 asked true n = Some n
 asked false n = None
 
--- the count of a policy, by what it misses of each string with so many frames
+-- the count of a policy that serves so many frames, by what it misses of each string with them
 abbrev pub count_of : ((List Key → ℕ) → ℕ) → ℕ → PolicyName → PolicyCount
-count_of count frames policy = record { policy = policy; count = count (misses_of policy frames) }
+count_of count frames policy = record { policy = policy; count = asked (serves policy frames) (count (misses_of policy frames)) }
 
--- A row has the count of each policy that is asked for, in their order. The string that is served has so many references, and so much is
+-- A row has the count of each policy that is asked for, in their order, or none of one that serves other numbers of frames. The string that is served has so many references, and so much is
 -- counted of the optimum.
 pub record IsCounted (count : (List Key → ℕ) → ℕ) (policies : List PolicyName) (references : ℕ) (optimum : Option ℕ) (frames : Frames) (row : PolicyCounts) : Type 0 where
   pub with_frames : row.frames ≡ frames

@@ -1,10 +1,10 @@
--- Numbers of frames that each policy serves: none of them refuses one.
-use Rattle.std.specs.Prelude.{◌≡◌, ℕ, zero, suc, ◌+◌, ◌<◌, ◌≤◌, ◌&&◌, ◌⊎◌, Bool, true, false, nat_le, List, [], ◌∷◌, drop, length, slice_index_or, refl}
+-- Numbers of frames that policies serve: none of them refuses one.
+use Rattle.std.specs.Prelude.{◌≡◌, ℕ, zero, suc, ◌+◌, ◌<◌, ◌≤◌, ◌&&◌, ◌||◌, ◌⊎◌, Bool, true, false, nat_le, List, [], ◌∷◌, drop, length, map, slice_index_or, refl}
 use Rattle.std.proofs.Common.{arith, ap, inl, inr, ◌∙◌}
 use Rattle.std.proofs.lemmas.Bool.Decides.{nat_tests}
 use Rattle.clock_policy.specs.FrameCounts.{least_frames, most_frames}
 use Rattle.page_policies.specs.declared.frames.Frames.{Frames}
-use Rattle.miss_counts.specs.Counted.{is_machines, serves, all_serve, each_serves}
+use Rattle.miss_counts.specs.Counted.{is_machines, serves, any_serves, any_served}
 use Rattle.miss_counts.specs.declared.policy_name.PolicyName.{PolicyName}
 
 both : (a b : Bool) → (a && b) ≡ true → (a ≡ true) × (b ≡ true)
@@ -15,27 +15,46 @@ both false b h = cc
 next : (n : ℕ) → suc n ≡ n + 1
 next n = omega arith
 
--- of policies that serve a number each does
+-- the first policies serve no such number
 
-pub each_served : (n i : ℕ) (ps : List PolicyName) (d : PolicyName) → i < length ps → all_serve ps n ≡ true → serves (slice_index_or ps i d) n ≡ true
-each_served n i [] d h all = absurd (omega (arith, h))
-each_served n zero (p ∷ ps) d h all = (both (serves p n) (all_serve ps n) all).0
-each_served n (suc i) (p ∷ ps) d h all = each_served n i ps d (omega (arith, h)) (both (serves p n) (all_serve ps n) all).1
-
-pub serving_on : (n i : ℕ) (ps : List PolicyName) (d : PolicyName) → i < length ps → serves (slice_index_or ps i d) n ≡ true → all_serve ps n ≡ all_serve (drop i ps) n → all_serve ps n ≡ all_serve (drop (i + 1) ps) n
-serving_on n i ps d h is before = before ∙ further i ps h is ∙ ap (λ (k : ℕ). all_serve (drop k ps) n) (next i)
+pub serving_on : (n i : ℕ) (ps : List PolicyName) (d : PolicyName) → i < length ps → serves (slice_index_or ps i d) n ≡ false → any_serves ps n ≡ any_serves (drop i ps) n → any_serves ps n ≡ any_serves (drop (i + 1) ps) n
+serving_on n i ps d h is before = before ∙ further i ps h is ∙ ap (λ (k : ℕ). any_serves (drop k ps) n) (next i)
   where
-    further : (i : ℕ) (ps : List PolicyName) → i < length ps → serves (slice_index_or ps i d) n ≡ true → all_serve (drop i ps) n ≡ all_serve (drop (suc i) ps) n
+    further : (i : ℕ) (ps : List PolicyName) → i < length ps → serves (slice_index_or ps i d) n ≡ false → any_serves (drop i ps) n ≡ any_serves (drop (suc i) ps) n
     further i [] h is = absurd (omega (arith, h))
-    further zero (p ∷ ps) h is = ap (λ (b : Bool). b && all_serve ps n) is
+    further zero (p ∷ ps) h is = ap (λ (b : Bool). b || any_serves ps n) is
     further (suc i) (p ∷ ps) h is = further i ps (omega (arith, h)) is
 
--- of numbers that are served each is
+pub serving_found : (n i : ℕ) (ps : List PolicyName) (d : PolicyName) → i < length ps → serves (slice_index_or ps i d) n ≡ true → any_serves ps n ≡ any_serves (drop i ps) n → any_serves ps n ≡ true
+serving_found n i ps d h is before = before ∙ here i ps h is
+  where
+    here : (i : ℕ) (ps : List PolicyName) → i < length ps → serves (slice_index_or ps i d) n ≡ true → any_serves (drop i ps) n ≡ true
+    here i [] h is = absurd (omega (arith, h))
+    here zero (p ∷ ps) h is = ap (λ (b : Bool). b || any_serves ps n) is
+    here (suc i) (p ∷ ps) h is = here i ps (omega (arith, h)) is
 
-pub each_size_served : (ps : List PolicyName) (n : ℕ) (fs : List Frames) (d : Frames) → n < length fs → each_serves ps fs ≡ true → all_serve ps (slice_index_or fs n d).number ≡ true
-each_size_served ps n [] d h all = absurd (omega (arith, h))
-each_size_served ps zero (f ∷ fs) d h all = (both (all_serve ps f.number) (each_serves ps fs) all).0
-each_size_served ps (suc n) (f ∷ fs) d h all = each_size_served ps n fs d (omega (arith, h)) (both (all_serve ps f.number) (each_serves ps fs) all).1
+-- none of them serves the first numbers
+
+abbrev pub numbers_of : List Frames → List ℕ
+numbers_of fs = map (λ f. f.number) fs
+
+pub served_on : (ps : List PolicyName) (i : ℕ) (fs : List Frames) (d : Frames) → i < length fs → any_serves ps (slice_index_or fs i d).number ≡ false → any_served ps (numbers_of fs) ≡ any_served ps (numbers_of (drop i fs))
+    → any_served ps (numbers_of fs) ≡ any_served ps (numbers_of (drop (i + 1) fs))
+served_on ps i fs d h is before = before ∙ further i fs h is ∙ ap (λ (k : ℕ). any_served ps (numbers_of (drop k fs))) (next i)
+  where
+    further : (i : ℕ) (fs : List Frames) → i < length fs → any_serves ps (slice_index_or fs i d).number ≡ false → any_served ps (numbers_of (drop i fs)) ≡ any_served ps (numbers_of (drop (suc i) fs))
+    further i [] h is = absurd (omega (arith, h))
+    further zero (f ∷ fs) h is = ap (λ (b : Bool). b || any_served ps (numbers_of fs)) is
+    further (suc i) (f ∷ fs) h is = further i fs (omega (arith, h)) is
+
+pub served_found : (ps : List PolicyName) (i : ℕ) (fs : List Frames) (d : Frames) → i < length fs → any_serves ps (slice_index_or fs i d).number ≡ true → any_served ps (numbers_of fs) ≡ any_served ps (numbers_of (drop i fs))
+    → any_served ps (numbers_of fs) ≡ true
+served_found ps i fs d h is before = before ∙ here i fs h is
+  where
+    here : (i : ℕ) (fs : List Frames) → i < length fs → any_serves ps (slice_index_or fs i d).number ≡ true → any_served ps (numbers_of (drop i fs)) ≡ true
+    here i [] h is = absurd (omega (arith, h))
+    here zero (f ∷ fs) h is = ap (λ (b : Bool). b || any_served ps (numbers_of fs)) is
+    here (suc i) (f ∷ fs) h is = here i fs (omega (arith, h)) is
 
 -- a number that is served is no refused one
 

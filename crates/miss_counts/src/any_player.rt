@@ -1,10 +1,10 @@
 //! A policy by its name, which counts as references come.
 
-ghost use Rattle.std.specs.Prelude.{◌≡◌, ◌+◌, true, List, IfOk};
+ghost use Rattle.std.specs.Prelude.{◌≡◌, ◌+◌, ◌≤◌, true, List, [], length, IfOk};
 ghost use Rattle.clock_policy.specs.declared.key.Key.{Key};
 ghost use Rattle.miss_counts.specs.Counted.{misses_of, serves};
 
-use crate::player::{Counting, Player, new_player};
+use crate::player::{Counting, Player, new_player, player_of};
 use crate::policy_name::PolicyName;
 use clock_policy::Key;
 use clock_ring::ClockRing;
@@ -35,8 +35,9 @@ impl AnyPlayer {
     #[tactic(auto, using(crate::specs::ServingLaws::not_refused))]
     pub fn new(alloc: Global, policy: PolicyName, frames: Frames) -> Result<Self, AllocError>
         requires { serves policy frames.number ≡ true }
-        ensures { IfOk result (λ player. (string : List Key) →
+        ensures all { IfOk result (λ player. (string : List Key) →
             ⟦<AnyPlayer as Counting>⟧.all player string ≡ misses_of policy frames.number string) }
+        ensures none { IfOk result (λ player. ⟦<AnyPlayer as Counting>⟧.all player [] ≡ 0) }
     {
         match policy {
             PolicyName::Fifo => Ok(AnyPlayer::Fifo(new_player(alloc, frames)?)),
@@ -44,13 +45,28 @@ impl AnyPlayer {
             PolicyName::Lru => Ok(AnyPlayer::Lru(new_player(alloc, frames)?)),
             PolicyName::ClockProUsed => Ok(AnyPlayer::ClockProUsed(new_player(alloc, frames)?)),
             PolicyName::ClockPro => Ok(AnyPlayer::ClockPro(new_player(alloc, frames)?)),
-            PolicyName::TwoQueues => Ok(AnyPlayer::TwoQueues(new_player(alloc, frames)?)),
-            PolicyName::Lirs => Ok(AnyPlayer::Lirs(new_player(alloc, frames)?)),
+            PolicyName::TwoQueues(shares) => {
+                let policy = TwoQueues::with_shares(alloc, frames, shares)?;
+                Ok(AnyPlayer::TwoQueues(player_of(policy)))
+            }
+            PolicyName::Lirs(shares) => {
+                let policy = Lirs::with_shares(alloc, frames, shares)?;
+                Ok(AnyPlayer::Lirs(player_of(policy)))
+            }
             PolicyName::Arc => Ok(AnyPlayer::Arc(new_player(alloc, frames)?)),
             PolicyName::Sieve => Ok(AnyPlayer::Sieve(new_player(alloc, frames)?)),
-            PolicyName::S3Fifo => Ok(AnyPlayer::S3Fifo(new_player(alloc, frames)?)),
-            PolicyName::WTinyLfu => Ok(AnyPlayer::WTinyLfu(new_player(alloc, frames)?)),
-            PolicyName::Random => Ok(AnyPlayer::Random(new_player(alloc, frames)?)),
+            PolicyName::S3Fifo(shares) => {
+                let policy = S3Fifo::with_shares(alloc, frames, shares)?;
+                Ok(AnyPlayer::S3Fifo(player_of(policy)))
+            }
+            PolicyName::WTinyLfu(shares) => {
+                let policy = WTinyLfu::with_shares(alloc, frames, shares)?;
+                Ok(AnyPlayer::WTinyLfu(player_of(policy)))
+            }
+            PolicyName::Random(seed) => {
+                let policy = RandomPolicy::with_seed(alloc, frames, seed);
+                Ok(AnyPlayer::Random(player_of(policy)))
+            }
         }
     }
 }

@@ -1,16 +1,18 @@
 //! What each policy misses.
 
-ghost use Rattle.std.specs.Prelude.{◌≡◌, ◌↔◌, IfOk, Err, Some, None, true, false, map};
+ghost use Rattle.std.specs.Prelude.{◌≡◌, ◌↔◌, IfOk, Err, Some, None, List, [], true, false, map};
 ghost use Rattle.std.specs.List.{AllZip};
 ghost use Rattle.page_policies.specs.Optimal.{optimal_misses};
-ghost use Rattle.miss_counts.specs.Counted.{IsRow, asked, all_serve, each_serves};
+ghost use Rattle.miss_counts.specs.Counted.{IsRow, asked, is_counted};
 
+use crate::any_player::AnyPlayer;
 use crate::play_count::{PlayCount, counts_by};
-use crate::policy_name::{PolicyName, each_serves};
+use crate::player::Counting;
+use crate::policy_name::PolicyName;
 use crate::policy_set::PolicySet;
 use crate::stages::{Stage, StageListener};
 use clock_policy::Key;
-use page_policies::{Frames, Policy, PolicyRefusal, misses};
+use page_policies::{Frames, PolicyRefusal};
 use std::alloc::{AllocError, Global};
 use whole_strings::optimum_counts;
 
@@ -18,7 +20,8 @@ use whole_strings::optimum_counts;
 #[derive(Clone, Copy, Debug, PartialEq, Eq)]
 pub struct PolicyCount {
     pub policy: PolicyName,
-    pub count: u64,
+    /// None where the policy serves other numbers of frames only.
+    pub count: Option<u64>,
 }
 
 /// What is counted with so many frames, of the policies that were asked for.
@@ -42,12 +45,10 @@ struct MissCount<'s> {
 impl<'s> PlayCount for MissCount<'s> {
     ghost counts = { λ counting misses. misses counting.string.now };
 
-    fn count_under<P: Policy>(
-        &self,
-        alloc: Global,
-        frames: Frames,
-    ) -> Result<usize, PolicyRefusal> {
-        misses::<P>(alloc, frames, self.string)
+    fn count_under(&self, _: Global, player: AnyPlayer) -> Result<u64, AllocError> {
+        let mut player = player;
+        player.play(self.string)?;
+        Ok(player.count())
     }
 }
 
@@ -101,8 +102,7 @@ fn counts_of(
     optimum: Option<u64>,
     wanted: &PolicySet,
 ) -> Result<PolicyCounts, AllocError>
-    requires served { all_serve wanted.now.policies.items frames.number ≡ true }
-    requires optimum { optimum ≡ asked wanted.now.optimum (optimal_misses frames.number
+    requires { optimum ≡ asked wanted.now.optimum (optimal_misses frames.number
         string.now) }
     ensures { IfOk result (IsRow wanted.now string.now frames) }
 {
@@ -117,7 +117,8 @@ fn counts_of(
     )
 }
 
-/// What a string misses with each of these numbers of frames, under the policies that are asked for.
+/// What a string misses with each of these numbers of frames, under the policies that are asked for. It is refused where nothing is
+/// counted.
 pub fn rows_of<P: StageListener>(
     alloc: Global,
     frames: &[Frames],
@@ -127,25 +128,24 @@ pub fn rows_of<P: StageListener>(
 ) -> Result<Vec<PolicyCounts>, PolicyRefusal>
     ensures rows { IfOk result (λ rows. AllZip (IsRow wanted.now string.now) frames.now
         rows.items) }
-    ensures bad_size { (result ≡ Err PolicyRefusal.BadSize) ↔ (each_serves
-        wanted.now.policies.items frames.now ≡ false) }
+    ensures bad_size { (result ≡ Err PolicyRefusal.BadSize) ↔ (is_counted wanted.now (map (λ f.
+        f.number) frames.now) ≡ false) }
 {
-    if !each_serves(wanted.policies.as_slice(), frames) {
+    if !wanted.is_counted(frames) {
         return Err(PolicyRefusal::BadSize);
     }
     Ok(count_rows(alloc, frames, string, wanted, progress)?)
 }
 
-/// The same rows. Each policy serves each number of frames.
-#[tactic(auto, using(crate::specs::ServingLaws::each_size_served, crate::proofs::Floors::floors_whole, crate::proofs::Floors::floor_here))]
-pub(crate) fn count_rows<P: StageListener>(
+/// The same rows.
+#[tactic(auto, using(crate::proofs::Floors::floors_whole, crate::proofs::Floors::floor_here))]
+fn count_rows<P: StageListener>(
     alloc: Global,
     frames: &[Frames],
     string: &[Key],
     wanted: &PolicySet,
     progress: &mut P,
 ) -> Result<Vec<PolicyCounts>, AllocError>
-    requires { each_serves wanted.now.policies.items frames.now ≡ true }
     ensures { IfOk result (λ rows. AllZip (IsRow wanted.now string.now) frames.now rows.items) }
 {
     let floors = floors_if(alloc, frames, string, wanted.optimum)?;

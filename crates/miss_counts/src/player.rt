@@ -18,7 +18,8 @@ pub trait Counting: Drop {
 
     /// Some pages are used, one after another. The count stops at the greatest number that there is.
     fn play(&mut self, pages: &[Key]) -> Result<(), AllocError>
-        ensures { OnOk result (GoesOn all pages.now self.old self.new) };
+        ensures goes_on { OnOk result (GoesOn all pages.now self.old self.new) }
+        ensures few { OnOk result (all self.new [] ≤ all self.old [] + length pages.now) };
 
     /// What is counted so far.
     fn count(&self) -> u64
@@ -37,14 +38,24 @@ pub struct Player<P: Policy> {
     misses: u64,
 }
 
+/// A policy that begins to count.
+pub(crate) fn player_of<P: Policy>(policy: P) -> Player<P>
+    ensures all { (string : List Key) → ⟦<Player<P> as Counting>⟧.all result string ≡ P.to_miss
+        policy string }
+    ensures none { ⟦<Player<P> as Counting>⟧.all result [] ≡ 0 }
+{
+    Player { policy, misses: 0 }
+}
+
 /// A policy that begins to count. It serves so many frames.
 pub(crate) fn new_player<P: Policy>(alloc: Global, frames: Frames) -> Result<Player<P>, AllocError>
     requires { P.refuses frames.number → ⊥ }
-    ensures { IfOk result (λ player. (string : List Key) →
+    ensures all { IfOk result (λ player. (string : List Key) →
         ⟦<Player<P> as Counting>⟧.all player string ≡ P.misses frames.number string) }
+    ensures none { IfOk result (λ player. ⟦<Player<P> as Counting>⟧.all player [] ≡ 0) }
 {
     match P::new(alloc, frames) {
-        Ok(policy) => Ok(Player { policy, misses: 0 }),
+        Ok(policy) => Ok(player_of(policy)),
         Err(PolicyRefusal::NoMemory) => Err(AllocError),
         Err(PolicyRefusal::BadSize) => unreachable!(),
     }

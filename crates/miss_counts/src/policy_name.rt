@@ -1,12 +1,14 @@
 //! The policies by name.
 
-ghost use Rattle.std.specs.Prelude.{◌≡◌};
-ghost use Rattle.miss_counts.specs.Counted.{serves, all_serve, each_serves};
+ghost use Rattle.std.specs.Prelude.{◌≡◌, map};
+ghost use Rattle.miss_counts.specs.Counted.{any_served, any_serves, serves};
 
-use page_policies::Frames;
+use page_policies::{Frames, USUAL_SEED};
 use std::fmt;
+use tiny_lfu::{SketchWidth, TinyLfuShares};
+use younger_policies::{LirsShares, MovedCount, S3FifoShares, TwoQueueShares};
 
-/// A policy that plays a string as it comes.
+/// A policy that plays a string as it comes, with how it is asked for.
 #[derive(Clone, Copy, Debug, PartialEq, Eq)]
 pub enum PolicyName {
     Fifo,
@@ -14,33 +16,34 @@ pub enum PolicyName {
     Lru,
     ClockProUsed,
     ClockPro,
-    TwoQueues,
-    Lirs,
+    TwoQueues(TwoQueueShares),
+    Lirs(LirsShares),
     Arc,
     Sieve,
-    S3Fifo,
-    WTinyLfu,
-    Random,
+    S3Fifo(S3FifoShares),
+    WTinyLfu(TinyLfuShares),
+    /// By a generator of this seed.
+    Random(u64),
 }
 
 impl PolicyName {
-    /// The policies in the order of a table's columns.
+    /// The policies in the order of a table's columns, each as it is where nothing else is asked for.
     pub const ALL: [PolicyName; 12] = [
         PolicyName::Fifo,
         PolicyName::Clock,
         PolicyName::Lru,
         PolicyName::ClockProUsed,
         PolicyName::ClockPro,
-        PolicyName::TwoQueues,
-        PolicyName::Lirs,
+        PolicyName::TwoQueues(TwoQueueShares::USUAL),
+        PolicyName::Lirs(LirsShares::USUAL),
         PolicyName::Arc,
         PolicyName::Sieve,
-        PolicyName::S3Fifo,
-        PolicyName::WTinyLfu,
-        PolicyName::Random,
+        PolicyName::S3Fifo(S3FifoShares::USUAL),
+        PolicyName::WTinyLfu(TinyLfuShares::USUAL),
+        PolicyName::Random(USUAL_SEED),
     ];
 
-    /// Its name in lists and tables.
+    /// Its name in lists and tables, without how it is asked for.
     pub fn text(self) -> &'static str {
         match self {
             PolicyName::Fifo => "fifo",
@@ -48,13 +51,13 @@ impl PolicyName {
             PolicyName::Lru => "lru",
             PolicyName::ClockProUsed => "clock-pro-used",
             PolicyName::ClockPro => "clock-pro",
-            PolicyName::TwoQueues => "2q",
-            PolicyName::Lirs => "lirs",
+            PolicyName::TwoQueues(_) => "2q",
+            PolicyName::Lirs(_) => "lirs",
             PolicyName::Arc => "arc",
             PolicyName::Sieve => "sieve",
-            PolicyName::S3Fifo => "s3-fifo",
-            PolicyName::WTinyLfu => "w-tinylfu",
-            PolicyName::Random => "random",
+            PolicyName::S3Fifo(_) => "s3-fifo",
+            PolicyName::WTinyLfu(_) => "w-tinylfu",
+            PolicyName::Random(_) => "random",
         }
     }
 
@@ -70,33 +73,111 @@ impl PolicyName {
     }
 }
 
+/// Its name, and how it is asked for where that is not the usual.
 impl fmt::Display for PolicyName {
     fn fmt<W: fmt::Write>(&self, f: &mut fmt::Formatter<W>) -> fmt::Result {
-        f.write_str(self.text())
+        f.write_str(self.text())?;
+        match *self {
+            PolicyName::TwoQueues(shares) => write_two_queues(shares, f),
+            PolicyName::Lirs(shares) => write_lirs(shares, f),
+            PolicyName::S3Fifo(shares) => write_s3_fifo(shares, f),
+            PolicyName::WTinyLfu(shares) => write_tiny_lfu(shares, f),
+            PolicyName::Random(seed) => write_part("seed", seed, USUAL_SEED, f),
+            _ => Ok(()),
+        }
     }
 }
 
-/// Whether each of the policies serves so many frames.
-#[tactic(auto, using(crate::specs::ServingLaws::serving_on))]
-pub fn all_serve(policies: &[PolicyName], frames: Frames) -> bool
-    ensures { result ≡ all_serve policies.now frames.number }
+fn write_two_queues<W: fmt::Write>(
+    shares: TwoQueueShares,
+    f: &mut fmt::Formatter<W>,
+) -> fmt::Result {
+    let usual = TwoQueueShares::USUAL;
+    write_part("kin", u64::from(shares.kin), u64::from(usual.kin), f)?;
+    write_part("kout", u64::from(shares.kout), u64::from(usual.kout), f)
+}
+
+fn write_lirs<W: fmt::Write>(shares: LirsShares, f: &mut fmt::Formatter<W>) -> fmt::Result {
+    let usual = LirsShares::USUAL;
+    write_part("hirs", u64::from(shares.hirs), u64::from(usual.hirs), f)?;
+    write_part("floor", u64::from(shares.floor), u64::from(usual.floor), f)
+}
+
+fn write_s3_fifo<W: fmt::Write>(shares: S3FifoShares, f: &mut fmt::Formatter<W>) -> fmt::Result {
+    let usual = S3FifoShares::USUAL;
+    write_part("small", u64::from(shares.small), u64::from(usual.small), f)?;
+    write_part(
+        "ghost",
+        u64::from(shares.ghosts),
+        u64::from(usual.ghosts),
+        f,
+    )?;
+    match shares.moved {
+        MovedCount::Keep => Ok(()),
+        MovedCount::Clear => f.write_str(":moved=clear"),
+    }
+}
+
+fn write_tiny_lfu<W: fmt::Write>(shares: TinyLfuShares, f: &mut fmt::Formatter<W>) -> fmt::Result {
+    let usual = TinyLfuShares::USUAL;
+    write_part(
+        "window",
+        u64::from(shares.window),
+        u64::from(usual.window),
+        f,
+    )?;
+    write_part(
+        "protected",
+        u64::from(shares.protected),
+        u64::from(usual.protected),
+        f,
+    )?;
+    if shares.width == SketchWidth::Four {
+        f.write_str(":width=4")?;
+    }
+    write_part(
+        "sample",
+        u64::from(shares.sample),
+        u64::from(usual.sample),
+        f,
+    )
+}
+
+/// What is asked for by this name, where it is not the usual.
+fn write_part<W: fmt::Write>(
+    name: &str,
+    given: u64,
+    usual: u64,
+    f: &mut fmt::Formatter<W>,
+) -> fmt::Result {
+    if given == usual {
+        return Ok(());
+    }
+    write!(f, ":{name}={given}")
+}
+
+/// Whether one of the policies serves so many frames.
+#[tactic(auto, using(crate::specs::ServingLaws::serving_on, crate::specs::ServingLaws::serving_found))]
+pub fn any_serves(policies: &[PolicyName], frames: Frames) -> bool
+    ensures { result ≡ any_serves policies.now frames.number }
 {
     'policies: for policy in policies {
-        if !policy.serves(frames) {
-            return false;
+        if policy.serves(frames) {
+            return true;
         }
     }
-    true
+    false
 }
 
-/// Whether each of them serves each of these numbers of frames.
-pub fn each_serves(policies: &[PolicyName], frames: &[Frames]) -> bool
-    ensures { result ≡ each_serves policies.now frames.now }
+/// Whether one of them serves one of these numbers of frames.
+#[tactic(auto, using(crate::specs::ServingLaws::served_found))]
+pub fn any_served(policies: &[PolicyName], frames: &[Frames]) -> bool
+    ensures { result ≡ any_served policies.now (map (λ f. f.number) frames.now) }
 {
     'frames: for number in frames {
-        if !all_serve(policies, *number) {
-            return false;
+        if any_serves(policies, *number) {
+            return true;
         }
     }
-    true
+    false
 }

@@ -1,25 +1,25 @@
 //! Misses counted as references come.
 
-ghost use Rattle.std.specs.Prelude.{◌≡◌, ◌+◌, ◌<◌, ◌^◌, ◌↔◌, Err, None, true, false, List, [], length};
-ghost use Rattle.std.specs.Prelude.{map, IfOk, OnOk};
+ghost use Rattle.std.specs.Prelude.{◌≡◌, ◌+◌, ◌<◌, ◌^◌, None, true, false, List, [], length, map};
+ghost use Rattle.std.specs.Prelude.{option_map, IfOk, OnOk};
 ghost use Rattle.std.specs.List.{AllZip};
 ghost use Rattle.clock_policy.specs.declared.key.Key.{Key};
-ghost use Rattle.miss_counts.specs.Counted.{all_serve, serves};
-ghost use Rattle.miss_counts.specs.Playing.{GoesOn, Opens, StartsAnew};
+ghost use Rattle.miss_counts.specs.Counted.{serves};
+ghost use Rattle.miss_counts.specs.Playing.{Begins, GoesOn, Opens, StartsAnew, Where};
 
 use crate::any_player::AnyPlayer;
 use crate::counts::{PolicyCount, PolicyCounts};
 use crate::player::Counting;
-use crate::policy_name::{PolicyName, all_serve};
+use crate::policy_name::PolicyName;
 use clock_policy::Key;
-use page_policies::{Frames, PolicyRefusal};
+use page_policies::Frames;
 use std::alloc::{AllocError, Global};
 
-/// A policy that counts, with its name.
+/// A policy that counts, with its name; none where it serves other numbers of frames only.
 #[derive(Drop)]
 pub struct NamedPlayer<P: Counting> {
     policy: PolicyName,
-    player: P,
+    player: Option<P>,
 }
 
 /// The policies that are asked for with one number of frames, which count as references come. After an error nothing is said of them.
@@ -33,22 +33,18 @@ pub struct Row {
 }
 
 impl Row {
-    pub fn new(alloc: Global, frames: Frames, policies: &[PolicyName]) -> Result<Row, PolicyRefusal>
-        ensures bad_size { (result ≡ Err PolicyRefusal.BadSize) ↔ (all_serve policies.now
-            frames.number ≡ false) }
+    pub fn new(alloc: Global, frames: Frames, policies: &[PolicyName]) -> Result<Row, AllocError>
         ensures frames { IfOk result (λ row. row.frames ≡ frames) }
         ensures references { IfOk result (λ row. row.references ≡ 0) }
         ensures players { IfOk result (λ row. AllZip (λ policy named. Opens
             ⟦<AnyPlayer as Counting>⟧.all frames.number policy (named.policy, named.player))
             policies.now row.players.items) }
     {
-        if !all_serve(policies, frames) {
-            return Err(PolicyRefusal::BadSize);
-        }
+        let players = players_of(alloc, policies, frames)?;
         Ok(Row {
             frames,
             references: 0,
-            players: players_of(alloc, policies, frames)?,
+            players,
         })
     }
 
@@ -57,8 +53,8 @@ impl Row {
         ensures frames { OnOk result (self.new.frames ≡ self.old.frames) }
         ensures references { OnOk result (self.old.references + length pages.now < 2 ^ 64 →
             self.new.references ≡ self.old.references + length pages.now) }
-        ensures players { OnOk result (AllZip (λ s t. (t.policy ≡ s.policy) × GoesOn
-            ⟦<AnyPlayer as Counting>⟧.all pages.now s.player t.player)
+        ensures players { OnOk result (AllZip (λ s t. (t.policy ≡ s.policy) × Where (GoesOn
+            ⟦<AnyPlayer as Counting>⟧.all pages.now) s.player t.player)
             self.old.players.items self.new.players.items) }
     {
         self.references = self.references.saturating_add(pages.len() as u64);
@@ -69,8 +65,8 @@ impl Row {
     pub fn forget(&mut self)
         ensures frames { self.new.frames ≡ self.old.frames }
         ensures references { self.new.references ≡ 0 }
-        ensures players { AllZip (λ s t. (t.policy ≡ s.policy) × StartsAnew
-            ⟦<AnyPlayer as Counting>⟧.all s.player t.player)
+        ensures players { AllZip (λ s t. (t.policy ≡ s.policy) × Where (StartsAnew
+            ⟦<AnyPlayer as Counting>⟧.all) s.player t.player)
             self.old.players.items self.new.players.items }
     {
         self.references = 0;
@@ -83,7 +79,7 @@ impl Row {
         ensures references { IfOk result (λ row. row.references ≡ self.now.references) }
         ensures counts { IfOk result (λ row. row.counts.items ≡ map (λ named. record {
           policy = named.policy;
-          count = ⟦<AnyPlayer as Counting>⟧.all named.player [];
+          count = option_map (λ p. ⟦<AnyPlayer as Counting>⟧.all p []) named.player;
         }) self.now.players.items) }
         ensures optimum { IfOk result (λ row. row.optimum ≡ None) }
     {
@@ -96,28 +92,40 @@ impl Row {
     }
 }
 
-/// A policy that begins to count. It serves so many frames.
+/// A policy that begins to count, where it serves so many frames.
+fn player_where_served(
+    alloc: Global,
+    policy: PolicyName,
+    frames: Frames,
+) -> Result<Option<AnyPlayer>, AllocError>
+    ensures { IfOk result (Begins ⟦<AnyPlayer as Counting>⟧.all frames.number policy) }
+{
+    if !policy.serves(frames) {
+        return Ok(None);
+    }
+    let player = AnyPlayer::new(alloc, policy, frames)?;
+    Ok(Some(player))
+}
+
+/// The same with its name.
 fn named_player(
     alloc: Global,
     policy: PolicyName,
     frames: Frames,
 ) -> Result<NamedPlayer<AnyPlayer>, AllocError>
-    requires { serves policy frames.number ≡ true }
     ensures { IfOk result (λ named. Opens ⟦<AnyPlayer as Counting>⟧.all frames.number policy
         (named.policy, named.player)) }
 {
-    let player = AnyPlayer::new(alloc, policy, frames)?;
+    let player = player_where_served(alloc, policy, frames)?;
     Ok(NamedPlayer { policy, player })
 }
 
-/// The policies that begin to count. Each serves so many frames.
-#[tactic(auto, using(crate::specs::ServingLaws::each_served))]
+/// The policies that begin to count.
 fn players_of(
     alloc: Global,
     policies: &[PolicyName],
     frames: Frames,
 ) -> Result<Vec<NamedPlayer<AnyPlayer>>, AllocError>
-    requires { all_serve policies.now frames.number ≡ true }
     ensures { IfOk result (λ players. AllZip (λ policy named. Opens
         ⟦<AnyPlayer as Counting>⟧.all frames.number policy (named.policy, named.player))
         policies.now players.items) }
@@ -129,27 +137,57 @@ fn players_of(
     Ok(players)
 }
 
+/// Some pages are used under a policy, if it is there.
+fn play_one<P: Counting>(player: &mut Option<P>, pages: &[Key]) -> Result<(), AllocError>
+    ensures { OnOk result (Where (GoesOn P.all pages.now) player.old player.new) }
+{
+    match player {
+        Some(player) => player.play(pages),
+        None => Ok(()),
+    }
+}
+
+/// A policy, if it is there, begins to count anew.
+fn forget_one<P: Counting>(player: &mut Option<P>)
+    ensures { Where (StartsAnew P.all) player.old player.new }
+{
+    match player {
+        Some(player) => player.forget(),
+        None => {}
+    }
+}
+
+/// What a policy, if it is there, has counted so far.
+fn count_so_far<P: Counting>(player: &Option<P>) -> Option<u64>
+    ensures { result ≡ option_map (λ p. P.all p []) player.now }
+{
+    match player {
+        Some(player) => Some(player.count()),
+        None => None,
+    }
+}
+
 /// Some pages are used under each of the policies.
 fn play_each<P: Counting>(
     players: &mut Vec<NamedPlayer<P>>,
     pages: &[Key],
 ) -> Result<(), AllocError>
-    ensures { OnOk result (AllZip (λ s t. (t.policy ≡ s.policy) × GoesOn P.all pages.now s.player
-        t.player) players.old.items players.new.items) }
+    ensures { OnOk result (AllZip (λ s t. (t.policy ≡ s.policy) × Where (GoesOn P.all pages.now)
+        s.player t.player) players.old.items players.new.items) }
 {
     'players: for named in players.iter_mut() {
-        named.player.play(pages)?;
+        play_one(&mut named.player, pages)?;
     }
     Ok(())
 }
 
 /// Each of the policies begins to count anew.
 fn forget_each<P: Counting>(players: &mut Vec<NamedPlayer<P>>)
-    ensures { AllZip (λ s t. (t.policy ≡ s.policy) × StartsAnew P.all s.player t.player)
+    ensures { AllZip (λ s t. (t.policy ≡ s.policy) × Where (StartsAnew P.all) s.player t.player)
         players.old.items players.new.items }
 {
     'players: for named in players.iter_mut() {
-        named.player.forget();
+        forget_one(&mut named.player);
     }
 }
 
@@ -160,12 +198,12 @@ fn counts_so_far<P: Counting>(
 ) -> Result<Vec<PolicyCount>, AllocError>
     ensures { IfOk result (λ counts. counts.items ≡ map (λ named. record {
       policy = named.policy;
-      count = P.all named.player [];
+      count = option_map (λ p. P.all p []) named.player;
     }) players.now) }
 {
     let mut counts = Vec::new(alloc);
     'players: for named in players {
-        let (policy, count) = (named.policy, named.player.count());
+        let (policy, count) = (named.policy, count_so_far(&named.player));
         counts.push(PolicyCount { policy, count })?;
     }
     Ok(counts)

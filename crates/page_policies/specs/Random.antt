@@ -1,6 +1,6 @@
--- Random replacement, by a generator whose seed is fixed, so that each run is the same: Pcg32 of Melissa E. O'Neill, "PCG: A Family of
--- Simple Fast Space-Efficient Statistically Good Algorithms for Random Number Generation", 2014, with the seeds 42 and 54 of her
--- examples. A word of 32 bits modulo the number of pages names the one that leaves.
+-- Random replacement, by a generator whose seed is given, so that each run is the same: Pcg32 of Melissa E. O'Neill, "PCG: A Family of
+-- Simple Fast Space-Efficient Statistically Good Algorithms for Random Number Generation", 2014, with the stream 54 of her examples, and
+-- their seed 42 where no other is asked for. A word of 32 bits modulo the number of pages names the one that leaves.
 use Rattle.std.specs.Prelude.{ℕ, ◌%◌, Bool, cond, nat_lt, List, [], ◌∷◌, ◌++◌, length, slice_get, swap_remove, Option, Some, None}
 use Rattle.rand_pcg.specs.Lcg.{Lcg, started, increment_of}
 use Rattle.rand_pcg.specs.Pcg.{multiplier_64, pcg32}
@@ -40,8 +40,11 @@ in_random p s = holds p s.pages
 abbrev pub random : ℕ → Key → RandomState → RandomState
 random m p s = cond (in_random p s) s (joined p (room_drawn m s))
 
-abbrev pub seeded : Lcg
-seeded = started 64 multiplier_64 42 (increment_of 64 54)
+abbrev pub seeded : ℕ → Lcg
+seeded seed = started 64 multiplier_64 seed (increment_of 64 54)
 
-unfoldable pub random_misses : ℕ → List Key → ℕ
-random_misses m string = misses in_random (random m) (record { pages = []; generator = seeded }) string
+abbrev pub usual_seed : ℕ
+usual_seed = 42
+
+unfoldable pub random_misses : ℕ → ℕ → List Key → ℕ
+random_misses seed m string = misses in_random (random m) (record { pages = []; generator = seeded seed }) string

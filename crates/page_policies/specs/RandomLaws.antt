@@ -145,6 +145,6 @@ serves m some p s few = elim (holds p s.pages) as (λ b. holds p s.pages ≡ b �
       }
 ] refl
 
-pub random_played : IsPlayed random_misses
+pub random_played : (seed : ℕ) → IsPlayed (random_misses seed)
 unfolding random_misses
-random_played frames string some = served_plays frames frames_of (λ s. length s.pages ≤ frames) in_random (random frames) (serves frames some) (record { pages = []; generator = seeded }) string (omega arith)
+random_played seed frames string some = served_plays frames frames_of (λ s. length s.pages ≤ frames) in_random (random frames) (serves frames some) (record { pages = []; generator = seeded seed }) string (omega arith)

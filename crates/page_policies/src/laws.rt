@@ -1,5 +1,6 @@
 //! Laws of the policies' definitions.
 
+ghost use Rattle.std.specs.Prelude.{ℕ};
 ghost use Rattle.page_policies.specs.Inclusion.{Inclusion, MissesNoMore};
 ghost use Rattle.page_policies.specs.Queues.{fifo_misses, lru_misses};
 ghost use Rattle.page_policies.specs.SecondChance.{clock_misses};
@@ -35,5 +36,5 @@ pub fn optimum_is_a_play()
     ensures fifo { IsPlayed fifo_misses }
     ensures lru { IsPlayed lru_misses }
     ensures clock { IsPlayed clock_misses }
-    ensures random { IsPlayed random_misses }
+    ensures random { (seed : ℕ) → IsPlayed (random_misses seed) }
 {}

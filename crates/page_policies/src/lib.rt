@@ -22,6 +22,7 @@ pub use laws::{
 pub use lru_policy::Lru;
 pub use policy::{HitOrMiss, Policy, misses};
 pub use queue::{Queue, cut};
+pub use random_policy::USUAL_SEED;
 pub use random_state::RandomPolicy;
 pub use refusal::PolicyRefusal;
 pub use second_chance::SecondChance;

@@ -1,10 +1,11 @@
 //! Random replacement.
 
-ghost use Rattle.std.specs.Prelude.{◌≡◌, ◌≤◌, ◌<◌, ◌++◌, ◌∷◌, [], refl, false, length, IfOk, OnOk};
+ghost use Rattle.std.specs.Prelude.{◌≡◌, ◌≤◌, ◌<◌, ◌++◌, ◌∷◌, [], refl, false, length, List, IfOk, OnOk};
 ghost use Rattle.rand_pcg.specs.Pcg.{pcg32};
+ghost use Rattle.clock_policy.specs.declared.key.Key.{Key};
 ghost use Rattle.page_policies.specs.Strings.{holds, misses as misses_by};
 ghost use Rattle.page_policies.specs.Random.{place_of, drawn, room_drawn, joined, in_random};
-ghost use Rattle.page_policies.specs.Random.{random, random_misses, seeded};
+ghost use Rattle.page_policies.specs.Random.{random, random_misses, usual_seed};
 ghost use Rattle.page_policies.specs.RandomLaws.{pages_of};
 
 use crate::frames::Frames;
@@ -33,7 +34,23 @@ fn draw(generator: &mut Pcg32, count: usize) -> usize
     generator.next_word() as usize % count
 }
 
+/// The seed where no other is asked for.
+pub const USUAL_SEED: u64 = 42;
+
 impl RandomPolicy {
+    /// With its frames empty, by a generator of this seed.
+    #[tactic(auto, unfolding(crate::specs::Random::random_misses))]
+    pub fn with_seed(alloc: Global, frames: Frames, seed: u64) -> Self
+        ensures { (string : List Key) → ⟦<RandomPolicy as Policy>⟧.to_miss result string ≡
+            random_misses seed frames.number string }
+    {
+        RandomPolicy {
+            frames: frames.number(),
+            pages: IndexSet::new(alloc),
+            generator: Pcg32::new(seed, 54),
+        }
+    }
+
     /// A page that is drawn leaves.
     fn draw_out(&mut self)
         requires { 1 ≤ length self.old.pages.keys }
@@ -85,7 +102,7 @@ impl RandomPolicy {
 }
 
 impl Policy for RandomPolicy {
-    ghost misses = { random_misses };
+    ghost misses = { random_misses usual_seed };
 
     ghost to_miss = { λ policy string. misses_by in_random (random policy.frames) (pages_of policy)
         string };
@@ -94,13 +111,8 @@ impl Policy for RandomPolicy {
 
     ghost none_to_miss = { λ policy. refl };
 
-    #[tactic(auto, unfolding(crate::specs::Random::random_misses))]
     fn new(alloc: Global, frames: Frames) -> Result<Self, PolicyRefusal> {
-        Ok(RandomPolicy {
-            frames: frames.number(),
-            pages: IndexSet::new(alloc),
-            generator: Pcg32::new(42, 54),
-        })
+        Ok(RandomPolicy::with_seed(alloc, frames, USUAL_SEED))
     }
 
     fn refer(&mut self, page: Key) -> Result<HitOrMiss, AllocError> {

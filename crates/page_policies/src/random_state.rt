@@ -6,7 +6,7 @@ use clock_policy::Key;
 use indexmap::IndexSet;
 use rand_pcg::Pcg32;
 
-/// Random replacement: a page that is drawn leaves. The seed is fixed, so that each run is the same.
+/// Random replacement: a page that is drawn leaves. The seed is given, so that each run is the same.
 #[derive(Drop)]
 pub struct RandomPolicy {
     pub(crate) frames: usize,

@@ -25,4 +25,4 @@ module _ (gives : List ℕ → List ℕ → Type 0) where
   pub record CountsAsAsked (request : MissesRequest) (rows : List PolicyCounts) : Type 0 where
     pub processes : List Process
     pub guests : AreGuests request.guest processes
-    pub table : IsTable request.wanted (guest_pages request.guest.accesses request.guest.slice request.guest.limit processes) (option_map (λ f. f.items) request.frames) rows
+    pub table : IsTable request.wanted (guest_pages request.guest.accesses request.guest.slice request.guest.limit processes) (option_map (λ s. s.items) request.sizes) rows

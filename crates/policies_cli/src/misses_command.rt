@@ -54,7 +54,7 @@ pub fn count_misses<'a, R: Folder + AllocGlobal, P: StageListener>(
         accesses,
         slice,
         limit,
-        request.frames,
+        request.sizes,
         &request.wanted,
         progress,
     )?;

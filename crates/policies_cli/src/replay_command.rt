@@ -3,7 +3,10 @@
 use crate::teller::Teller;
 use crate::wrong::Wrong;
 use clock_policy::Key;
-use miss_counts::{PolicyCounts, PolicyName, Row, Stage, StageListener, rows_of};
+use miss_counts::{
+    PolicyCounts, PolicyName, PolicySet, Row, Stage, StageListener, frames_for, frames_for_string,
+    has_part, rows_of,
+};
 use page_policies::Frames;
 use policies_requests::ReplayRequest;
 use policies_tables::write_table;
@@ -44,6 +47,8 @@ fn count_trace<'a, R: Files + AllocGlobal, P: StageListener>(
     let mut trace = open_trace(rt, request.trace, request.format)?;
     if request.wanted.optimum {
         count_whole(alloc, &mut trace, request, progress)
+    } else if has_part(request.sizes.as_slice()) {
+        count_kept(alloc, &mut trace, request, progress)
     } else {
         count_as_it_comes(alloc, &mut trace, request, progress)
     }
@@ -57,13 +62,46 @@ fn count_whole<'a, B: BufRead + Drop, P: StageListener>(
     progress: &mut P,
 ) -> Result<Vec<PolicyCounts>, Wrong<'a>> {
     let string = read_whole(alloc, trace, progress)?;
+    let frames = frames_for_string(alloc, request.sizes.as_slice(), string.as_slice())?;
     Ok(rows_of(
         alloc,
-        request.frames.as_slice(),
+        frames.as_slice(),
         string.as_slice(),
         &request.wanted,
         progress,
     )?)
+}
+
+/// Keeps the whole string too, since the numbers of frames follow from its pages.
+fn count_kept<'a, B: BufRead + Drop, P: StageListener>(
+    alloc: Global,
+    trace: &mut TraceFile<'a, B>,
+    request: &ReplayRequest<'a>,
+    progress: &mut P,
+) -> Result<Vec<PolicyCounts>, Wrong<'a>> {
+    let string = read_whole(alloc, trace, progress)?;
+    let frames = frames_for_string(alloc, request.sizes.as_slice(), string.as_slice())?;
+    let mut rows = new_rows(alloc, frames.as_slice(), &request.wanted)?;
+    play_kept(alloc, string.as_slice(), request, &mut rows)
+}
+
+/// Plays a string. What the first references miss that are skipped is left out.
+fn play_kept<'a>(
+    alloc: Global,
+    string: &[Key],
+    request: &ReplayRequest<'a>,
+    rows: &mut Vec<Row>,
+) -> Result<Vec<PolicyCounts>, Wrong<'a>> {
+    let skipped = request.skip.min(string.len() as u64) as usize;
+    if skipped == string.len() {
+        return Err(none_played(request, skipped as u64));
+    }
+    play_block(rows, &string[..skipped])?;
+    for row in rows.iter_mut() {
+        row.forget();
+    }
+    play_block(rows, &string[skipped..])?;
+    counts_of(alloc, rows.as_slice())
 }
 
 /// Keeps what the policies keep, and a block of references.
@@ -73,15 +111,12 @@ fn count_as_it_comes<'a, B: BufRead + Drop, P: StageListener>(
     request: &ReplayRequest<'a>,
     progress: &mut P,
 ) -> Result<Vec<PolicyCounts>, Wrong<'a>> {
-    let mut rows = new_rows(
-        alloc,
-        request.frames.as_slice(),
-        request.wanted.policies.as_slice(),
-    )?;
+    let frames = frames_for(alloc, request.sizes.as_slice(), 0)?;
+    let mut rows = new_rows(alloc, frames.as_slice(), &request.wanted)?;
     play_rest(alloc, trace, request, &mut rows, progress)
 }
 
-/// Plays the whole trace. What the first references miss that are skipped is not told.
+/// Plays the whole trace. What the first references miss that are skipped is left out.
 fn play_rest<'a, B: BufRead + Drop, P: StageListener>(
     alloc: Global,
     trace: &mut TraceFile<'a, B>,
@@ -149,13 +184,17 @@ fn play_block<'a>(rows: &mut Vec<Row>, block: &[Key]) -> Result<(), Wrong<'a>> {
     Ok(())
 }
 
+/// A row for each of these numbers of frames, where anything is counted.
 fn new_rows<'a>(
     alloc: Global,
     frames: &[Frames],
-    policies: &[PolicyName],
+    wanted: &PolicySet,
 ) -> Result<Vec<Row>, Wrong<'a>> {
+    if !wanted.is_counted(frames) {
+        return Err(Wrong::BadSize);
+    }
     let mut rows = Vec::new(alloc);
-    add_rows(alloc, &mut rows, frames, policies)?;
+    add_rows(alloc, &mut rows, frames, wanted.policies.as_slice())?;
     Ok(rows)
 }
 

@@ -3,9 +3,13 @@
 use crate::teller::Teller;
 use crate::wrong::Wrong;
 use guest_strings::Reference;
-use miss_counts::{PolicyCounts, StageListener};
+use miss_counts::{
+    PolicyCounts, StageListener, TableSize, frames_for, frames_for_string, has_part,
+};
+use page_policies::Frames;
 use policies_requests::WriteBacksRequest;
 use policies_tables::write_table;
+use std::alloc::{AllocError, Global};
 use std::io::Write;
 use std::rt::Files;
 use trace_files::{open_trace, read_references};
@@ -40,13 +44,30 @@ fn count<'a, R: Files + AllocGlobal, P: StageListener>(
     progress: &mut P,
 ) -> Result<Vec<PolicyCounts>, Wrong<'a>> {
     let string = string_of(rt, request, progress)?;
+    let frames = frames_of(rt.alloc(), request.sizes.as_slice(), string.as_slice())?;
     Ok(write_back_rows(
         rt.alloc(),
-        request.frames.as_slice(),
+        frames.as_slice(),
         string.as_slice(),
         request.policies.as_slice(),
         progress,
     )?)
+}
+
+/// The numbers of frames for a string.
+fn frames_of(
+    alloc: Global,
+    sizes: &[TableSize],
+    string: &[Reference],
+) -> Result<Vec<Frames>, AllocError> {
+    if !has_part(sizes) {
+        return frames_for(alloc, sizes, 0);
+    }
+    let mut pages = Vec::new(alloc);
+    for reference in string {
+        pages.push(reference.page)?;
+    }
+    frames_for_string(alloc, sizes, pages.as_slice())
 }
 
 /// The references of the whole trace.

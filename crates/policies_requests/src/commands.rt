@@ -3,6 +3,15 @@
 use clap::{Arg, ArgAction, Command};
 use std::alloc::{AllocError, Global};
 
+/// What `--format` may be.
+const FORMATS: &str = "text, csv, oraclegeneral, lackey or dynamorio";
+
+/// What it may be where a trace is written.
+const WRITTEN_FORMATS: &str = "text, csv or oraclegeneral";
+
+/// What `--progress` does.
+const PROGRESS: &str = "shows how far the count is";
+
 /// A command, where it could be made.
 type Made<'a> = Result<Command<'a>, AllocError>;
 
@@ -31,21 +40,51 @@ fn misses<'a>(alloc: Global) -> Made<'a> {
 }
 
 fn trace<'a>(alloc: Global) -> Made<'a> {
-    with_option(alloc, guest(alloc, named(alloc, "trace")), "format")
+    with_option(
+        alloc,
+        guest(alloc, named(alloc, "trace")),
+        "format",
+        WRITTEN_FORMATS,
+    )
 }
 
 fn replay<'a>(alloc: Global) -> Made<'a> {
     let command = table(alloc, named(alloc, "replay"));
-    let command = with_option(alloc, command, "skip");
-    let command = with_flag(alloc, command, "optimum");
+    let command = with_option(
+        alloc,
+        command,
+        "skip",
+        "plays so many references first that do not count",
+    );
+    let command = with_flag(
+        alloc,
+        command,
+        "optimum",
+        "counts the optimum too, of the whole string",
+    );
     with_trace(alloc, command)
 }
 
 fn curve<'a>(alloc: Global) -> Made<'a> {
     let command = named(alloc, "curve");
-    let command = with_option(alloc, command, "sample");
-    let command = with_flag(alloc, command, "working-sets");
-    let command = with_flag(alloc, command, "optimum");
+    let command = with_option(
+        alloc,
+        command,
+        "sample",
+        "looks at one page in so many, and estimates",
+    );
+    let command = with_flag(
+        alloc,
+        command,
+        "working-sets",
+        "counts working sets, by windows in place of frames",
+    );
+    let command = with_flag(
+        alloc,
+        command,
+        "optimum",
+        "counts the optimum too, of the whole string",
+    );
     with_trace(alloc, printed(alloc, command))
 }
 
@@ -55,7 +94,10 @@ fn write_backs<'a>(alloc: Global) -> Made<'a> {
 }
 
 fn totals<'a>(alloc: Global) -> Made<'a> {
-    with_trace(alloc, with_flag(alloc, named(alloc, "totals"), "progress"))
+    with_trace(
+        alloc,
+        with_flag(alloc, named(alloc, "totals"), "progress", PROGRESS),
+    )
 }
 
 /// A command that takes nothing yet.
@@ -65,25 +107,71 @@ fn named<'a>(alloc: Global, name: &'a str) -> Made<'a> {
 
 /// The command with what says which table is printed, and how.
 fn table<'a>(alloc: Global, command: Made<'a>) -> Made<'a> {
-    let command = with_option(alloc, command, "frames");
-    let command = with_option(alloc, command, "policies");
+    let command = with_option(
+        alloc,
+        command,
+        "frames",
+        "numbers of frames, ranges as 4-64 or 4-64x2, parts of the pages as 0.1%",
+    );
+    let command = with_option(
+        alloc,
+        command,
+        "policies",
+        "names, with what is asked for as 2q:kin=25; or all",
+    );
+    let command = with_option(alloc, command, "seed", "the seed of the policy random");
     printed(alloc, command)
 }
 
 /// The command with what says how counts are printed, and whether it is told how far they are.
 fn printed<'a>(alloc: Global, command: Made<'a>) -> Made<'a> {
-    let command = with_flag(alloc, command, "ratio");
-    let command = with_flag(alloc, command, "csv");
-    with_flag(alloc, command, "progress")
+    let command = with_flag(
+        alloc,
+        command,
+        "ratio",
+        "shows which part of the references missed",
+    );
+    let command = with_flag(
+        alloc,
+        command,
+        "csv",
+        "prints numbers with commas between them",
+    );
+    with_flag(alloc, command, "progress", PROGRESS)
 }
 
 /// The command with what says which guests run, and how.
 fn guest<'a>(alloc: Global, command: Made<'a>) -> Made<'a> {
-    let command = with_option(alloc, command, "slice");
-    let command = with_option(alloc, command, "limit");
-    let command = with_option(alloc, command, "input");
-    let command = with_flag(alloc, command, "data");
-    let command = with_flag(alloc, command, "instructions");
+    let command = with_option(
+        alloc,
+        command,
+        "slice",
+        "how many instructions each live hart runs in turn",
+    );
+    let command = with_option(
+        alloc,
+        command,
+        "limit",
+        "after how many instructions the string ends",
+    );
+    let command = with_option(
+        alloc,
+        command,
+        "input",
+        "the file whose bytes the first process reads",
+    );
+    let command = with_flag(
+        alloc,
+        command,
+        "data",
+        "only the pages that instructions load and store",
+    );
+    let command = with_flag(
+        alloc,
+        command,
+        "instructions",
+        "only the pages of the instructions",
+    );
     with_arg(
         command,
         Arg::new(alloc, "image")
@@ -94,21 +182,29 @@ fn guest<'a>(alloc: Global, command: Made<'a>) -> Made<'a> {
 
 /// The command with the name of a trace, and what says how it is read.
 fn with_trace<'a>(alloc: Global, command: Made<'a>) -> Made<'a> {
-    let command = with_option(alloc, command, "format");
-    let command = with_option(alloc, command, "columns");
+    let command = with_option(alloc, command, "format", FORMATS);
+    let command = with_option(
+        alloc,
+        command,
+        "columns",
+        "of a csv without names: the numbers of its columns, as time=1,id=2",
+    );
     with_arg(command, Arg::new(alloc, "trace").required(true))
 }
 
-/// The command with an option that has a value.
-fn with_option<'a>(alloc: Global, command: Made<'a>, name: &'a str) -> Made<'a> {
-    with_arg(command, Arg::new(alloc, name).long(name))
+/// The command with an option that has a value, and its line of help.
+fn with_option<'a>(alloc: Global, command: Made<'a>, name: &'a str, help: &'a str) -> Made<'a> {
+    with_arg(command, Arg::new(alloc, name).long(name).help(help))
 }
 
-/// The command with an option that has no value.
-fn with_flag<'a>(alloc: Global, command: Made<'a>, name: &'a str) -> Made<'a> {
+/// The command with an option that has no value, and its line of help.
+fn with_flag<'a>(alloc: Global, command: Made<'a>, name: &'a str, help: &'a str) -> Made<'a> {
     with_arg(
         command,
-        Arg::new(alloc, name).long(name).action(ArgAction::SetTrue),
+        Arg::new(alloc, name)
+            .long(name)
+            .action(ArgAction::SetTrue)
+            .help(help),
     )
 }
 

@@ -19,6 +19,9 @@ pub enum RequestFault<'a> {
     /// A word that names no policy, and those that do.
     #[error("--policies {0}: {1}")]
     Policies(&'a str, PolicyWords),
+    /// A word with a policy's name, the name, and which parameters it may have.
+    #[error("--policies {0}: {1} may have {2}")]
+    PolicyParts(&'a str, &'static str, &'static str),
     /// Two options that don't go together, and why.
     #[error("--{0} with --{1}: {2}")]
     Together(&'static str, &'static str, &'static str),

@@ -1,5 +1,7 @@
 //! Lists of numbers of frames.
 
+use crate::percents::part_in;
+use miss_counts::TableSize;
 use page_policies::Frames;
 use std::alloc::{AllocError, Global};
 use text_lines::numeral;
@@ -26,16 +28,20 @@ impl From<AllocError> for ListFault<'_> {
     }
 }
 
-/// Numbers of frames, and ranges of them, parted by commas. A range is `4-64`, each number of it, or `4-64x2`, each twice as many as
-/// the one before.
-pub(crate) fn frames_in<'a>(alloc: Global, list: &'a str) -> Result<Vec<Frames>, ListFault<'a>> {
+/// Numbers of frames, ranges of them, and parts of a string's pages, parted by commas. A range is `4-64`, each number of it, or `4-64x2`,
+/// each twice as many as the one before; a part is `0.1%`.
+pub(crate) fn sizes_in<'a>(alloc: Global, list: &'a str) -> Result<Vec<TableSize>, ListFault<'a>> {
     let mut all = Vec::new(alloc);
     add_list(&mut all, list)?;
     Ok(all)
 }
 
-fn add_list<'a>(all: &mut Vec<Frames>, list: &'a str) -> Result<(), ListFault<'a>> {
+fn add_list<'a>(all: &mut Vec<TableSize>, list: &'a str) -> Result<(), ListFault<'a>> {
     for word in list.split(',') {
+        if let Some(part) = part_in(word) {
+            add_size(all, TableSize::Part(part))?;
+            continue;
+        }
         match range_of(word) {
             Some((from, to, times)) if 1 <= from && from <= to => {
                 add_range(all, from, to, times)?;
@@ -69,8 +75,19 @@ fn frames_of(word: &str) -> Option<u32> {
     numeral(word.as_bytes(), 10, MOST_FRAMES)
 }
 
+/// Adds a number, where the list may have one more.
+fn add_size<'a>(all: &mut Vec<TableSize>, size: TableSize) -> Result<(), ListFault<'a>> {
+    if all.len() >= MOST_NUMBERS {
+        return Err(ListFault::TooMany);
+    }
+    match all.push(size) {
+        Ok(()) => Ok(()),
+        Err(_) => Err(ListFault::NoMemory),
+    }
+}
+
 fn add_range<'a>(
-    all: &mut Vec<Frames>,
+    all: &mut Vec<TableSize>,
     from: u32,
     to: u32,
     times: u32,
@@ -80,12 +97,7 @@ fn add_range<'a>(
         let Some(frames) = Frames::new(next as usize) else {
             return Ok(());
         };
-        if all.len() >= MOST_NUMBERS {
-            return Err(ListFault::TooMany);
-        }
-        if all.push(frames).is_err() {
-            return Err(ListFault::NoMemory);
-        }
+        add_size(all, TableSize::Frames(frames))?;
         next = if times == 1 {
             next.saturating_add(1)
         } else {

@@ -2,14 +2,13 @@
 
 use crate::access_choice::accesses;
 use crate::fault::RequestFault;
-use crate::options::{is_given, listed_frames, number_from, printing};
+use crate::options::{is_given, listed_sizes, number_from, printing};
 use crate::policy_choice::wanted_policies;
 use crate::request::{GuestRequest, MissesRequest, PoliciesRequest, TraceRequest};
 use crate::trace_formats::format;
 use clap::ArgMatches;
 use machine_limits::MOST_PROCESSES;
-use miss_counts::PolicySet;
-use page_policies::Frames;
+use miss_counts::{PolicySet, TableSize};
 use std::alloc::Global;
 use trace_files::TraceFormat;
 
@@ -26,11 +25,11 @@ pub(crate) fn misses_request<'a>(
     alloc: Global,
     matches: &ArgMatches<'a>,
 ) -> Result<PoliciesRequest<'a>, RequestFault<'a>> {
-    let (frames, wanted) = guests_table(alloc, matches)?;
+    let (sizes, wanted) = guests_table(alloc, matches)?;
     let guest = guest_request(alloc, matches)?;
     Ok(PoliciesRequest::Misses(MissesRequest {
         guest,
-        frames,
+        sizes,
         wanted,
         printing: printing(matches),
         is_told: is_given(matches, "progress"),
@@ -41,14 +40,14 @@ pub(crate) fn misses_request<'a>(
 fn guests_table<'a>(
     alloc: Global,
     matches: &ArgMatches<'a>,
-) -> Result<(Option<Vec<Frames>>, PolicySet), RequestFault<'a>> {
+) -> Result<(Option<Vec<TableSize>>, PolicySet), RequestFault<'a>> {
     match matches.get_str("frames") {
         Some(list) => {
-            let frames = listed_frames(alloc, list)?;
-            let wanted = wanted_policies(alloc, matches, true, frames.as_slice())?;
-            Ok((Some(frames), wanted))
+            let sizes = listed_sizes(alloc, list)?;
+            let wanted = wanted_policies(alloc, matches, true, false, sizes.as_slice())?;
+            Ok((Some(sizes), wanted))
         }
-        None => Ok((None, wanted_policies(alloc, matches, true, &[])?)),
+        None => Ok((None, wanted_policies(alloc, matches, true, false, &[])?)),
     }
 }
 

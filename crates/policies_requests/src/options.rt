@@ -1,16 +1,16 @@
 //! What single options say.
 
 use crate::fault::RequestFault;
-use crate::frame_lists::{ListFault, frames_in};
+use crate::frame_lists::{ListFault, sizes_in};
 use clap::ArgMatches;
-use page_policies::Frames;
+use miss_counts::TableSize;
 use policies_tables::Printing;
 use std::alloc::Global;
 use text_lines::numeral;
 
 /// What a list of frames may be.
 const FRAMES: &str =
-    "numbers from 1 to 16777216 or ranges of them, as 4-64 or 4-64x2, parted by commas";
+    "numbers from 1 to 16777216, ranges of them, as 4-64 or 4-64x2, or parts of the pages, as 0.1%, parted by commas";
 
 /// Whether a flag is given.
 pub(crate) fn is_given(matches: &ArgMatches<'_>, name: &str) -> bool {
@@ -51,12 +51,12 @@ pub(crate) fn number_from<'a>(
 }
 
 /// The numbers of frames that a list has.
-pub(crate) fn listed_frames<'a>(
+pub(crate) fn listed_sizes<'a>(
     alloc: Global,
     list: &'a str,
-) -> Result<Vec<Frames>, RequestFault<'a>> {
-    match frames_in(alloc, list) {
-        Ok(frames) => Ok(frames),
+) -> Result<Vec<TableSize>, RequestFault<'a>> {
+    match sizes_in(alloc, list) {
+        Ok(sizes) => Ok(sizes),
         Err(fault) => Err(list_wrong(fault, list)),
     }
 }

@@ -1,7 +1,8 @@
 //! Lists of policies.
 
 use crate::fault::RequestFault;
-use miss_counts::{PolicyName, PolicySet, each_serves};
+use crate::policy_parts::{name_in, parts_of, policy_in, policy_named};
+use miss_counts::{PolicyName, PolicySet};
 use page_policies::Frames;
 use policies_tables::OPTIMUM;
 use std::alloc::{AllocError, Global};
@@ -25,7 +26,7 @@ pub struct PolicyWords;
 impl fmt::Display for PolicyWords {
     fn fmt<W: fmt::Write>(&self, f: &mut fmt::Formatter<W>) -> fmt::Result {
         for policy in PolicyName::ALL {
-            write!(f, "{policy}, ")?;
+            write!(f, "{}, ", policy.text())?;
         }
         write!(f, "{OPTIMUM}, parted by commas, or {ALL}")
     }
@@ -39,34 +40,86 @@ pub(crate) fn usual_policies(
 ) -> Result<PolicySet, AllocError> {
     let mut policies = Vec::new(alloc);
     for policy in USUAL {
-        if each_serves(&[policy], frames) {
+        if serves_each(policy, frames) {
             policies.push(policy)?;
         }
     }
     Ok(PolicySet { policies, optimum })
 }
 
-/// The policies that a list names, in the order of a table's columns.
-pub(crate) fn policies_in<'a>(alloc: Global, list: &'a str) -> Result<PolicySet, RequestFault<'a>> {
-    if let Some(word) = unknown_word(list) {
-        return Err(RequestFault::Policies(word, PolicyWords));
+fn serves_each(policy: PolicyName, frames: &[Frames]) -> bool {
+    for number in frames {
+        if !policy.serves(*number) {
+            return false;
+        }
     }
-    Ok(named_policies(alloc, list)?)
+    true
 }
 
-/// The policies that a list of their names has.
-fn named_policies(alloc: Global, list: &str) -> Result<PolicySet, AllocError> {
+/// The policies that a list names, in the order of a table's columns, one name's in the order of the list. `random` has this seed where
+/// the list says none.
+pub(crate) fn policies_in<'a>(
+    alloc: Global,
+    list: &'a str,
+    seed: u64,
+) -> Result<PolicySet, RequestFault<'a>> {
+    if let Some(wrong) = wrong_word(list) {
+        return Err(wrong);
+    }
+    Ok(named_policies(alloc, list, seed)?)
+}
+
+/// The policies that a list has.
+fn named_policies(alloc: Global, list: &str, seed: u64) -> Result<PolicySet, AllocError> {
     let has_all = has_word(list, ALL);
     let mut policies = Vec::new(alloc);
     for policy in PolicyName::ALL {
-        if has_all || has_word(list, policy.text()) {
-            policies.push(policy)?;
+        if has_all {
+            add(&mut policies, seeded(policy, policy.text(), seed))?;
         }
+        add_named(&mut policies, list, policy.text(), seed)?;
     }
     Ok(PolicySet {
         policies,
         optimum: has_all || has_word(list, OPTIMUM),
     })
+}
+
+/// Adds the policies of a list that have this name.
+fn add_named(
+    policies: &mut Vec<PolicyName>,
+    list: &str,
+    name: &str,
+    seed: u64,
+) -> Result<(), AllocError> {
+    for word in list.split(',') {
+        if name_in(word) != name {
+            continue;
+        }
+        if let Some(policy) = policy_in(word) {
+            add(policies, seeded(policy, word, seed))?;
+        }
+    }
+    Ok(())
+}
+
+/// Adds a policy that is not there.
+fn add(policies: &mut Vec<PolicyName>, policy: PolicyName) -> Result<(), AllocError> {
+    if policies.contains(&policy) {
+        return Ok(());
+    }
+    match policies.push(policy) {
+        Ok(()) => Ok(()),
+        Err(_) => Err(AllocError),
+    }
+}
+
+/// The policy of a word, with this seed where it draws and the word says no other.
+fn seeded(policy: PolicyName, word: &str, seed: u64) -> PolicyName {
+    match policy {
+        PolicyName::Random(_) if word == policy.text() => PolicyName::Random(seed),
+        _ => policy,
+    }
 }
 
 /// Whether a list has the word.
@@ -79,22 +132,16 @@ pub(crate) fn has_word(list: &str, word: &str) -> bool {
     false
 }
 
-/// The first word of a list that names no policy.
-fn unknown_word(list: &str) -> Option<&str> {
+/// What is wrong with the first word of a list that is no policy.
+fn wrong_word<'a>(list: &'a str) -> Option<RequestFault<'a>> {
     for word in list.split(',') {
-        if !is_known(word) {
-            return Some(word);
+        if word == OPTIMUM || word == ALL || policy_in(word).is_some() {
+            continue;
         }
+        return match policy_named(name_in(word)) {
+            Some(policy) => Some(RequestFault::PolicyParts(word, policy.text(), parts_of(policy))),
+            None => Some(RequestFault::Policies(word, PolicyWords)),
+        };
     }
     None
-}
-
-/// Whether the word names a policy, or all.
-fn is_known(word: &str) -> bool {
-    for policy in PolicyName::ALL {
-        if policy.text() == word {
-            return true;
-        }
-    }
-    word == OPTIMUM || word == ALL
 }

@@ -1,8 +1,7 @@
 //! What is asked for.
 
 use guest_strings::AccessKinds;
-use miss_counts::{PolicyName, PolicySet};
-use page_policies::Frames;
+use miss_counts::{PolicyName, PolicySet, TableSize};
 use policies_tables::Printing;
 use std::num::NonZeroU32;
 use trace_files::TraceFormat;
@@ -37,7 +36,7 @@ pub struct GuestRequest<'a> {
 pub struct MissesRequest<'a> {
     pub guest: GuestRequest<'a>,
     /// None: as many rows as the guests have pages for.
-    pub frames: Option<Vec<Frames>>,
+    pub sizes: Option<Vec<TableSize>>,
     pub wanted: PolicySet,
     pub printing: Printing,
     /// Whether it is told on standard error how far the count is.
@@ -54,7 +53,7 @@ pub struct TraceRequest<'a> {
 /// Count what a trace misses.
 #[derive(Drop)]
 pub struct ReplayRequest<'a> {
-    pub frames: Vec<Frames>,
+    pub sizes: Vec<TableSize>,
     pub format: TraceFormat,
     /// Where the optimum is among them the whole string is kept.
     pub wanted: PolicySet,
@@ -85,7 +84,7 @@ pub struct CurveRequest<'a> {
 /// Count what a trace writes back.
 #[derive(Drop)]
 pub struct WriteBacksRequest<'a> {
-    pub frames: Vec<Frames>,
+    pub sizes: Vec<TableSize>,
     pub format: TraceFormat,
     pub policies: Vec<PolicyName>,
     pub printing: Printing,

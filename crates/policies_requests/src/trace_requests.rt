@@ -1,7 +1,7 @@
 //! Requests on traces.
 
 use crate::fault::RequestFault;
-use crate::options::{is_given, listed_frames, number_from, printing, trace};
+use crate::options::{is_given, listed_sizes, number_from, printing, trace};
 use crate::policy_choice::{replayed_policies, writing_policies};
 use crate::request::{
     CurveRequest, PoliciesRequest, ReplayRequest, TotalsRequest, WriteBacksRequest,
@@ -9,9 +9,8 @@ use crate::request::{
 use crate::trace_formats::format;
 use clap::ArgMatches;
 use machine_limits::MOST_FRAMES;
-use miss_counts::usual_frames;
-use page_policies::Frames;
-use std::alloc::Global;
+use miss_counts::{TableSize, usual_frames};
+use std::alloc::{AllocError, Global};
 use std::num::NonZeroU32;
 
 /// What `--skip` may be.
@@ -30,10 +29,10 @@ pub(crate) fn replay_request<'a>(
     let skip = number_from(matches, "skip", 0, 0, u32::MAX, SKIPPED)?;
     let format = format(matches)?;
     let trace = trace(matches)?;
-    let frames = trace_frames(alloc, matches)?;
-    let wanted = replayed_policies(alloc, matches, frames.as_slice(), skip)?;
+    let sizes = trace_sizes(alloc, matches)?;
+    let wanted = replayed_policies(alloc, matches, sizes.as_slice(), skip)?;
     Ok(PoliciesRequest::Replay(ReplayRequest {
-        frames,
+        sizes,
         format,
         wanted,
         skip: u64::from(skip),
@@ -44,14 +43,23 @@ pub(crate) fn replay_request<'a>(
 }
 
 /// The numbers of frames that a trace is played with.
-fn trace_frames<'a>(
+fn trace_sizes<'a>(
     alloc: Global,
     matches: &ArgMatches<'a>,
-) -> Result<Vec<Frames>, RequestFault<'a>> {
+) -> Result<Vec<TableSize>, RequestFault<'a>> {
     match matches.get_str("frames") {
-        Some(list) => listed_frames(alloc, list),
-        None => Ok(usual_frames(alloc, MOST_FRAMES as usize)?),
+        Some(list) => listed_sizes(alloc, list),
+        None => Ok(usual_sizes(alloc)?),
     }
+}
+
+/// The usual numbers of frames, up to a machine's most.
+fn usual_sizes(alloc: Global) -> Result<Vec<TableSize>, AllocError> {
+    let mut sizes = Vec::new(alloc);
+    for frames in usual_frames(alloc, MOST_FRAMES as usize)? {
+        sizes.push(TableSize::Frames(frames))?;
+    }
+    Ok(sizes)
 }
 
 pub(crate) fn write_backs_request<'a>(
@@ -60,10 +68,10 @@ pub(crate) fn write_backs_request<'a>(
 ) -> Result<PoliciesRequest<'a>, RequestFault<'a>> {
     let format = format(matches)?;
     let trace = trace(matches)?;
-    let frames = trace_frames(alloc, matches)?;
-    let policies = writing_policies(alloc, matches, frames.as_slice())?;
+    let sizes = trace_sizes(alloc, matches)?;
+    let policies = writing_policies(alloc, matches, sizes.as_slice())?;
     Ok(PoliciesRequest::WriteBacks(WriteBacksRequest {
-        frames,
+        sizes,
         format,
         policies,
         printing: printing(matches),

@@ -1,5 +1,6 @@
 //! The table of misses: a row for each number of frames.
 
+use crate::names::{name_size, write_policy};
 use crate::numbers::{part_of, write_blanks, write_ratio};
 use crate::printing::Printing;
 use miss_counts::{PolicyCount, PolicyCounts};
@@ -45,7 +46,35 @@ pub fn write_table<W: Write>(
     for counts in rows {
         write_any_row(&row_of(counts), printing, out)?;
     }
+    if printing.is_csv {
+        return Ok(());
+    }
+    write_unserved(rows, out)
+}
+
+/// Writes below a table why cells of it are empty.
+fn write_unserved<W: Write>(rows: &[PolicyCounts], out: &mut W) -> io::Result<()> {
+    let Some(first) = rows.first() else {
+        return Ok(());
+    };
+    for (place, counted) in first.counts.iter().enumerate() {
+        if has_empty(rows, place) {
+            writeln!(out, "{} has 4 to 4096 frames", counted.policy)?;
+        }
+    }
     Ok(())
+}
+
+/// Whether a column has an empty cell.
+fn has_empty(rows: &[PolicyCounts], place: usize) -> bool {
+    for row in rows {
+        if let Some(counted) = row.counts.get(place)
+            && counted.count.is_none()
+        {
+            return true;
+        }
+    }
+    false
 }
 
 pub(crate) fn write_any_head<W: Write>(
@@ -86,7 +115,10 @@ fn write_csv_head<W: Write>(row: &TableRow<'_>, out: &mut W) -> io::Result<()> {
 fn write_csv_row<W: Write>(row: &TableRow<'_>, printing: Printing, out: &mut W) -> io::Result<()> {
     write!(out, "{}", row.frames)?;
     for counted in row.counts {
-        write_csv_value(counted.count, row.references, printing, out)?;
+        match counted.count {
+            Some(count) => write_csv_value(count, row.references, printing, out)?,
+            None => out.write_all(b",")?,
+        }
     }
     if let Some(misses) = row.optimum {
         write_csv_value(misses, row.references, printing, out)?;
@@ -122,11 +154,7 @@ fn write_head<W: Write>(row: &TableRow<'_>, printing: Printing, out: &mut W) -> 
     write!(out, "frames")?;
     let mut is_first = true;
     for counted in row.counts {
-        write_name(
-            counted.policy.text(),
-            if is_first { WIDE } else { wide },
-            out,
-        )?;
+        write_policy(counted.policy, if is_first { WIDE } else { wide }, out)?;
         is_first = false;
     }
     if row.optimum.is_some() {
@@ -143,34 +171,69 @@ fn write_name<W: Write>(name: &str, wide: usize, out: &mut W) -> io::Result<()> 
 
 fn write_row<W: Write>(row: &TableRow<'_>, printing: Printing, out: &mut W) -> io::Result<()> {
     write!(out, "{:>6}", row.frames)?;
+    let has_shares = has_shares(row, printing);
+    let mut due = Due {
+        columns: 0,
+        share: 0,
+    };
     let mut is_first = true;
     for counted in row.counts {
-        write_count(*counted, is_first, row, printing, out)?;
+        due.add(name_size(counted.policy), is_first, has_shares);
         is_first = false;
+        if let Some(count) = counted.count {
+            write_blanks(due.blanks(), out)?;
+            due = write_count(count, row, printing, out)?;
+        }
     }
     if let Some(misses) = row.optimum {
+        due.add(OPTIMUM.len(), is_first, has_shares);
+        write_blanks(due.blanks(), out)?;
         write_value(misses, row.references, printing, out)?;
     }
     writeln!(out)
 }
 
-/// Writes a policy's count, and how many times the optimum's it is where both are told.
+/// What a row has not written yet: the columns since its last count, of which that count's share took some room.
+#[derive(Clone, Copy)]
+struct Due {
+    columns: usize,
+    share: usize,
+}
+
+impl Due {
+    /// A column is due for a name of so many characters.
+    fn add(&mut self, name: usize, is_first: bool, has_shares: bool) {
+        let wide = if is_first || !has_shares { WIDE } else { WIDER };
+        self.columns = self
+            .columns
+            .saturating_add(wide.max(name.saturating_add(1)));
+    }
+
+    /// How many blanks stand before the count of the last column.
+    fn blanks(&self) -> usize {
+        self.columns.saturating_sub(WIDE).saturating_sub(self.share)
+    }
+}
+
+/// Writes a policy's count, and how many times the optimum's it is where both are printed.
 fn write_count<W: Write>(
-    counted: PolicyCount,
-    is_first: bool,
+    count: u64,
     row: &TableRow<'_>,
     printing: Printing,
     out: &mut W,
-) -> io::Result<()> {
-    let has_shares = has_shares(row, printing);
-    if is_first || !has_shares {
-        write_blanks(counted.policy.text().len().saturating_sub(WIDE - 1), out)?;
+) -> io::Result<Due> {
+    write_value(count, row.references, printing, out)?;
+    let mut due = Due {
+        columns: 0,
+        share: 0,
+    };
+    if let Some(optimum) = row.optimum
+        && !printing.is_ratio
+    {
+        write_share(count, optimum, out)?;
+        due.share = WIDER - WIDE;
     }
-    write_value(counted.count, row.references, printing, out)?;
-    match row.optimum {
-        Some(optimum) if has_shares => write_share(counted.count, optimum, out),
-        _ => Ok(()),
-    }
+    Ok(due)
 }
 
 fn write_value<W: Write>(

@@ -17,7 +17,7 @@ pub fn write_curve<W: Write>(
     for (at, misses) in lru.iter().enumerate() {
         let counts = [PolicyCount {
             policy: PolicyName::Lru,
-            count: *misses as u64,
+            count: Some(*misses as u64),
         }];
         let row = TableRow {
             frames: at.saturating_add(1),

@@ -4,6 +4,7 @@
 mod counts_table;
 mod curve_table;
 mod estimate_table;
+mod names;
 mod numbers;
 mod printing;
 mod windows_table;

@@ -1,6 +1,6 @@
 -- The sketch of TinyLFU (Gil Einziger, Roy Friedman and Ben Manes, "TinyLFU: A Highly Efficient Cache Admission Policy", ACM
--- Transactions on Storage 2017): how often pages were used, in little memory. It has four rows of counts, one count a row for each frame,
--- and a page has one in each row, at a place that its number gives; pages may share counts. Sentences of the publication stand
+-- Transactions on Storage 2017): how often pages were used, in little memory. It has four rows of counts, and a page has one in each row,
+-- at a place that its number gives; pages may share counts. Sentences of the publication stand
 -- beside the equations as they were remembered. Its doorkeeper, which holds pages that were used once, is left out, as its authors allow.
 use Rattle.std.specs.Prelude.{ℕ, suc, ◌+◌, ◌*◌, ◌/◌, ◌%◌, ◌^◌, ◌==◌, cond, nat_lt, min, List, map, slice_index_or, slice_set}
 use Rattle.clock_policy.specs.declared.key.Key.{Key}
@@ -52,14 +52,14 @@ pub record SketchState : Type 0 where
   pub counts : List ℕ
   pub added : ℕ
 
--- after how many uses the counts age, ten for each frame
-abbrev pub sample : ℕ → ℕ
-sample m = 10 * m
+-- the most counts that a row may have
+abbrev pub most_width : ℕ
+most_width = 67108864
 
 -- "reset": "once this counter reaches the sample size we divide it and all other counters by 2"
 abbrev pub aged : ℕ → SketchState → SketchState
-aged m s = cond (nat_lt s.added (sample m)) s (record { counts = map (λ n. n / 2) s.counts; added = s.added / 2 })
+aged sample s = cond (nat_lt s.added sample) s (record { counts = map (λ n. n / 2) s.counts; added = s.added / 2 })
 
 -- a use of the page
-abbrev pub counted : ℕ → Key → SketchState → SketchState
-counted m p s = aged m (record { counts = noted (places_of m p) s.counts; added = s.added + 1 })
+abbrev pub counted : ℕ → ℕ → Key → SketchState → SketchState
+counted m sample p s = aged sample (record { counts = noted (places_of m p) s.counts; added = s.added + 1 })

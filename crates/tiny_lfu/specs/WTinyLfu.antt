@@ -7,6 +7,10 @@ use Rattle.clock_policy.specs.declared.key.Key.{Key}
 use Rattle.page_policies.specs.Strings.{holds, without, misses}
 use Rattle.page_policies.specs.Ordered.{to_front, last_of, but_last}
 use Rattle.tiny_lfu.specs.Sketch.{SketchState, estimate, counted}
+use Rattle.tiny_lfu.specs.declared.shares.SketchWidth.{SketchWidth}
+use Rattle.tiny_lfu.specs.declared.shares.SketchWidth.TheVariants.{One, Four}
+use Rattle.tiny_lfu.specs.declared.shares.TinyLfuShares.{TinyLfuShares}
+use Rattle.tiny_lfu.specs.declared.shares.TinyLfuRooms.{TinyLfuRooms}
 
 pub record WTinyLfuState : Type 0 where
   pub window : List Key
@@ -14,16 +18,32 @@ pub record WTinyLfuState : Type 0 where
   pub protected : List Key
   pub sketch : SketchState
 
--- "the window is 1% of the cache", one frame at least, and the main cache the rest
-abbrev pub window_frames : ℕ → ℕ
-window_frames m = max 1 (m / 100)
+-- "the window is 1% of the cache"; "80% of the main cache is for protected pages"; a row of the sketch has a count for each frame, and
+-- all counts are halved after ten uses for each
+abbrev pub usual_shares : TinyLfuShares
+usual_shares = record { window = 1; protected = 80; width = One; sample = 10 }
 
-abbrev pub main_frames : ℕ → ℕ
-main_frames m = m - window_frames m
+abbrev pub counts_of : SketchWidth → ℕ
+counts_of One = 1
+counts_of Four = 4
 
--- "80% of the main cache is for protected pages", rounded down
-abbrev pub protected_frames : ℕ → ℕ
-protected_frames m = main_frames m * 4 / 5
+-- the window has one frame at least, and the main cache the rest
+abbrev pub window_frames : TinyLfuShares → ℕ → ℕ
+window_frames shares m = max (m * shares.window / 100) 1
+
+abbrev pub main_frames : TinyLfuShares → ℕ → ℕ
+main_frames shares m = m - window_frames shares m
+
+-- of m frames, rounded down
+abbrev pub rooms_of : TinyLfuShares → ℕ → TinyLfuRooms
+rooms_of shares m = record {
+  frames = m;
+  window = window_frames shares m;
+  main = main_frames shares m;
+  protected = main_frames shares m * shares.protected / 100;
+  width = m * counts_of shares.width;
+  sample = max (m * shares.sample) 1;
+}
 
 -- a page on probation behind the others of its list, or none
 abbrev pub joined : Option Key → List Key → List Key
@@ -31,14 +51,14 @@ joined None s = s
 joined (Some q) s = to_front q s
 
 -- where there are too many protected pages the one whose last use is longest ago is on probation again
-abbrev pub settled : ℕ → WTinyLfuState → WTinyLfuState
-settled m s = cond (nat_lt (protected_frames m) (length s.protected))
+abbrev pub settled : TinyLfuRooms → WTinyLfuState → WTinyLfuState
+settled r s = cond (nat_lt r.protected (length s.protected))
     (record { window = s.window; probation = joined (last_of s.protected) s.probation; protected = but_last s.protected; sketch = s.sketch })
     s
 
 -- a page on probation that is used again becomes a protected one
-abbrev pub promoted : ℕ → Key → WTinyLfuState → WTinyLfuState
-promoted m p s = settled m (record { window = s.window; probation = without p s.probation; protected = to_front p s.protected; sketch = s.sketch })
+abbrev pub promoted : TinyLfuRooms → Key → WTinyLfuState → WTinyLfuState
+promoted r p s = settled r (record { window = s.window; probation = without p s.probation; protected = to_front p s.protected; sketch = s.sketch })
 
 abbrev pub window_used : Key → WTinyLfuState → WTinyLfuState
 window_used p s = record { window = to_front p s.window; probation = s.probation; protected = s.protected; sketch = s.sketch }
@@ -47,8 +67,8 @@ abbrev pub protected_used : Key → WTinyLfuState → WTinyLfuState
 protected_used p s = record { window = s.window; probation = s.probation; protected = to_front p s.protected; sketch = s.sketch }
 
 -- a hit
-abbrev pub used : ℕ → Key → WTinyLfuState → WTinyLfuState
-used m p s = cond (holds p s.protected) (protected_used p s) (cond (holds p s.window) (window_used p s) (promoted m p s))
+abbrev pub used : TinyLfuRooms → Key → WTinyLfuState → WTinyLfuState
+used r p s = cond (holds p s.protected) (protected_used p s) (cond (holds p s.window) (window_used p s) (promoted r p s))
 
 -- "the cache victim": the page on probation whose last use is longest ago; where none is on probation, the protected one
 abbrev pub victim : WTinyLfuState → Option Key
@@ -64,35 +84,38 @@ let_in c s = record { window = s.window; probation = to_front c s.probation; pro
 
 -- "TinyLFU decides whether it is worth admitting the new item at the expense of the victim": the candidate comes in where it was used
 -- more often, and the victim leaves; else the candidate does
-abbrev pub contested : ℕ → Key → Option Key → WTinyLfuState → WTinyLfuState
-contested m c None s = s
-contested m c (Some v) s = cond (nat_lt (estimate m v s.sketch.counts) (estimate m c s.sketch.counts)) (let_in c (victim_out s)) s
+abbrev pub contested : TinyLfuRooms → Key → Option Key → WTinyLfuState → WTinyLfuState
+contested r c None s = s
+contested r c (Some v) s = cond (nat_lt (estimate r.width v s.sketch.counts) (estimate r.width c s.sketch.counts)) (let_in c (victim_out s)) s
 
 -- a page that left the window is a candidate for the main cache
-abbrev pub admitted : ℕ → Option Key → WTinyLfuState → WTinyLfuState
-admitted m None s = s
-admitted m (Some c) s = cond (nat_lt (length s.probation + length s.protected) (main_frames m)) (let_in c s) (contested m c (victim s) s)
+abbrev pub admitted : TinyLfuRooms → Option Key → WTinyLfuState → WTinyLfuState
+admitted r None s = s
+admitted r (Some c) s = cond (nat_lt (length s.probation + length s.protected) r.main) (let_in c s) (contested r c (victim s) s)
 
 -- "the victim of the window is the candidate"
-abbrev pub window_cut : ℕ → WTinyLfuState → WTinyLfuState
-window_cut m s = cond (nat_lt (window_frames m) (length s.window))
-    (admitted m (last_of s.window) (record { window = but_last s.window; probation = s.probation; protected = s.protected; sketch = s.sketch }))
+abbrev pub window_cut : TinyLfuRooms → WTinyLfuState → WTinyLfuState
+window_cut r s = cond (nat_lt r.window (length s.window))
+    (admitted r (last_of s.window) (record { window = but_last s.window; probation = s.probation; protected = s.protected; sketch = s.sketch }))
     s
 
 -- a miss: "any new item goes to the window"
-abbrev pub brought : ℕ → Key → WTinyLfuState → WTinyLfuState
-brought m p s = window_cut m (window_used p s)
+abbrev pub brought : TinyLfuRooms → Key → WTinyLfuState → WTinyLfuState
+brought r p s = window_cut r (window_used p s)
 
 abbrev pub in_w_tiny_lfu : Key → WTinyLfuState → Bool
 in_w_tiny_lfu p s = cond (holds p s.protected) true (cond (holds p s.window) true (holds p s.probation))
 
 -- each use is counted first
-abbrev pub noted : ℕ → Key → WTinyLfuState → WTinyLfuState
-noted m p s = record { window = s.window; probation = s.probation; protected = s.protected; sketch = counted m p s.sketch }
+abbrev pub noted : TinyLfuRooms → Key → WTinyLfuState → WTinyLfuState
+noted r p s = record { window = s.window; probation = s.probation; protected = s.protected; sketch = counted r.width r.sample p s.sketch }
 
-abbrev pub w_tiny_lfu : ℕ → Key → WTinyLfuState → WTinyLfuState
-w_tiny_lfu m p s = cond (in_w_tiny_lfu p s) (used m p (noted m p s)) (brought m p (noted m p s))
+abbrev pub w_tiny_lfu : TinyLfuRooms → Key → WTinyLfuState → WTinyLfuState
+w_tiny_lfu r p s = cond (in_w_tiny_lfu p s) (used r p (noted r p s)) (brought r p (noted r p s))
 
-unfoldable pub w_tiny_lfu_misses : ℕ → List Key → ℕ
-w_tiny_lfu_misses m string =
-    misses in_w_tiny_lfu (w_tiny_lfu m) (record { window = []; probation = []; protected = []; sketch = record { counts = replicate (4 * m) 0; added = 0 } }) string
+-- no page, and four rows of counts
+abbrev pub opening : TinyLfuRooms → WTinyLfuState
+opening r = record { window = []; probation = []; protected = []; sketch = record { counts = replicate (4 * r.width) 0; added = 0 } }
+
+unfoldable pub w_tiny_lfu_misses : TinyLfuShares → ℕ → List Key → ℕ
+w_tiny_lfu_misses shares m string = misses in_w_tiny_lfu (w_tiny_lfu (rooms_of shares m)) (opening (rooms_of shares m)) string

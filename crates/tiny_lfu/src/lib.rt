@@ -4,10 +4,12 @@
 
 mod laws;
 mod places;
+mod shares;
 mod sketch;
 mod sketch_state;
 mod w_tiny_lfu;
 mod w_tiny_lfu_state;
 
 pub use laws::w_tiny_lfu_is_a_play;
+pub use shares::{SketchWidth, TinyLfuShares};
 pub use w_tiny_lfu_state::WTinyLfu;

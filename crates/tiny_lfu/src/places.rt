@@ -1,9 +1,9 @@
 //! Where a page is counted.
 
 ghost use Rattle.std.specs.Prelude.{◌≡◌, ◌≤◌, ◌<◌, ◌*◌};
-ghost use Rattle.page_policies.specs.PolicyFrames.{most_policy_frames};
 ghost use Rattle.page_policies.specs.Spread.{spread};
 ghost use Rattle.tiny_lfu.specs.Sketch.{first, second, third, fourth, place, places_of};
+ghost use Rattle.tiny_lfu.specs.Sketch.{most_width};
 
 use clock_policy::Key;
 use page_policies::spread;
@@ -30,7 +30,7 @@ pub(crate) struct Places {
 #[tactic(auto, unfolding(crate::specs::Sketch::place))]
 fn place(width: usize, row: usize, multiplier: u64, page: Key) -> usize
     requires some { 1 ≤ width }
-    requires most { width ≤ most_policy_frames }
+    requires most { width ≤ most_width }
     requires row { row < 4 }
     ensures place { result ≡ place width row multiplier page }
     ensures inside { result < 4 * width }
@@ -42,7 +42,7 @@ fn place(width: usize, row: usize, multiplier: u64, page: Key) -> usize
 #[tactic(auto, unfolding(crate::specs::Sketch::places_of))]
 pub(crate) fn places_of(width: usize, page: Key) -> Places
     requires some { 1 ≤ width }
-    requires most { width ≤ most_policy_frames }
+    requires most { width ≤ most_width }
     ensures places { result ≡ places_of width page }
     ensures first { result.first < 4 * width }
     ensures second { result.second < 4 * width }

@@ -2,15 +2,13 @@
 
 ghost use Rattle.std.specs.Prelude.{◌≡◌, ◌≤◌, ◌<◌, ◌+◌, ◌*◌, ◌/◌, ◌==◌, cond, length, map};
 ghost use Rattle.std.specs.Prelude.{replicate, IfOk};
-ghost use Rattle.page_policies.specs.PolicyFrames.{most_policy_frames};
 ghost use Rattle.tiny_lfu.specs.Sketch.{least_at, estimate, raised, all_raised, noted, counted};
-ghost use Rattle.tiny_lfu.specs.Sketch.{sample};
+ghost use Rattle.tiny_lfu.specs.Sketch.{most_width};
 ghost use Rattle.tiny_lfu.specs.SketchLaws.{sketch_of};
 
 use crate::places::{Places, places_of};
 use crate::sketch_state::Sketch;
 use clock_policy::Key;
-use page_policies::Frames;
 use std::alloc::{AllocError, Global};
 
 /// The greatest count.
@@ -90,17 +88,20 @@ fn halve(counts: &mut [u8])
 }
 
 impl Sketch {
-    /// With no use.
-    pub(crate) fn new(alloc: Global, frames: Frames) -> Result<Sketch, AllocError>
-        ensures width { IfOk result (λ sketch. sketch.width ≡ frames.number) }
-        ensures counts { IfOk result (λ sketch. sketch.counts.items ≡ replicate (4 * frames.number)
-            0) }
+    /// With no use, rows of so many counts, which are halved after so many uses.
+    pub(crate) fn new(alloc: Global, width: usize, sample: usize) -> Result<Sketch, AllocError>
+        requires some { 1 ≤ width }
+        requires most { width ≤ most_width }
+        requires uses { 1 ≤ sample }
+        ensures width { IfOk result (λ sketch. sketch.width ≡ width) }
+        ensures sample { IfOk result (λ sketch. sketch.sample ≡ sample) }
+        ensures counts { IfOk result (λ sketch. sketch.counts.items ≡ replicate (4 * width) 0) }
         ensures added { IfOk result (λ sketch. sketch.added ≡ 0) }
     {
-        let width = frames.number();
         let counts = vec![in alloc; 0u8; 4 * width]?;
         Ok(Sketch {
             width,
+            sample,
             counts,
             added: 0,
         })
@@ -115,12 +116,14 @@ impl Sketch {
 
     /// A page was used.
     pub(crate) fn add(&mut self, page: Key)
-        ensures sketch { sketch_of self.new ≡ counted self.old.width page (sketch_of self.old) }
+        ensures sketch { sketch_of self.new ≡ counted self.old.width self.old.sample page (sketch_of
+            self.old) }
         ensures width { self.new.width ≡ self.old.width }
+        ensures sample { self.new.sample ≡ self.old.sample }
     {
         let at = places_of(self.width, page);
         note(self.counts.as_mut_slice(), at);
-        if self.added + 1 < 10 * self.width {
+        if self.added + 1 < self.sample {
             self.added += 1;
         } else {
             halve(self.counts.as_mut_slice());

@@ -1,8 +1,8 @@
 //! What W-TinyLFU keeps.
 
-ghost use Rattle.std.specs.Prelude.{◌≡◌, ◌≤◌};
-ghost use Rattle.page_policies.specs.PolicyFrames.{most_policy_frames};
+ghost use Rattle.std.specs.Prelude.{◌≡◌};
 
+use crate::shares::TinyLfuRooms;
 use crate::sketch_state::Sketch;
 use page_policies::Queue;
 
@@ -10,13 +10,13 @@ use page_policies::Queue;
 /// leave for it, as far as a sketch of all uses tells.
 #[derive(Drop)]
 pub struct WTinyLfu {
-    pub(crate) frames: usize,
+    pub(crate) rooms: TinyLfuRooms,
     pub(crate) window: Queue,
     /// pages that came from the window
     pub(crate) probation: Queue,
     /// pages that were used on probation
     pub(crate) protected: Queue,
     pub(crate) sketch: Sketch,
-    ghost width: { sketch.width ≡ frames },
-    ghost most: { frames ≤ most_policy_frames },
+    ghost width: { sketch.width ≡ rooms.width },
+    ghost sample: { sketch.sample ≡ rooms.sample },
 }

@@ -2,13 +2,14 @@
 use Rattle.std.proofs.Common.{◌≡◌, ◌∙◌, ℕ, true, false, List, ◌∷◌, Option, None, Some, IfSome, ap, refl, sym}
 use Rattle.std.specs.Option.{option_map}
 use Rattle.trace_files.proofs.Telling.{piece_breaks, pieces_over}
-use Rattle.trace_files.specs.References.{Breaks, counted, csv_behind, flaw_of, format_behind, is_of_addresses, line_given, line_or, lines, pieces_of, said}
+use Rattle.trace_lines.specs.Lines.{csv_behind, format_behind, said}
+use Rattle.trace_files.specs.References.{Breaks, counted, flaw_of, is_of_addresses, line_given, line_or, lines, pieces_of}
 use Rattle.trace_files.specs.ReferenceAnswers.{BreaksBy, IsOver, Passes, TakesPiece}
 use Rattle.trace_files.specs.declared.fault.TraceFault.{TraceFault}
-use Rattle.trace_files.specs.declared.format.TraceFormat.{TraceFormat}
-use Rattle.trace_files.specs.declared.format.TraceFormat.TheVariants.{Text, Csv, Columns, OracleGeneral, Lackey, DynamoRio}
-use Rattle.trace_files.specs.declared.trace_lines.TraceLine.{TraceLine}
-use Rattle.trace_files.specs.declared.trace_lines.TraceLine.TheVariants.{Refers, LeftOut, Names}
+use Rattle.trace_lines.specs.declared.format.TraceFormat.{TraceFormat}
+use Rattle.trace_lines.specs.declared.format.TraceFormat.TheVariants.{Text, Csv, Columns, OracleGeneral, Lackey, DynamoRio}
+use Rattle.trace_lines.specs.declared.trace_line.TraceLine.{TraceLine}
+use Rattle.trace_lines.specs.declared.trace_line.TraceLine.TheVariants.{Refers, LeftOut, Names}
 
 same_table : (line : TraceLine) (bytes : List ℕ) → pieces_of (csv_behind (Some line)) bytes ≡ pieces_of Csv bytes
 same_table (Refers line) bytes = refl

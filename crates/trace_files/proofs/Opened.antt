@@ -7,7 +7,7 @@ use Rattle.std.specs.Option.{option_map}
 use Rattle.std.specs.declared.io.buffered.BufReader.{BufReader}
 use Rattle.trace_files.specs.References.{Trace, trace_of}
 use Rattle.trace_files.specs.ReferenceAnswers.{IsAtFront, to_come}
-use Rattle.trace_files.specs.declared.format.TraceFormat.{TraceFormat}
+use Rattle.trace_lines.specs.declared.format.TraceFormat.{TraceFormat}
 use Rattle.trace_files.specs.declared.trace_file.TraceFile.{TraceFile}
 
 -- a reader that holds nothing yet gives what the reader below it does

@@ -1,14 +1,6 @@
-pub mod Ids
-pub mod IdLaws
-pub mod PageIds
-pub mod PlainLines
-pub mod Columns
-pub mod ColumnLaws
-pub mod PageLines
-pub mod AddressLines
-pub mod AddressLineLaws
 pub mod References
 pub mod ReferenceAnswers
 pub mod Written
 pub mod WrittenLaws
 pub mod ReadBackLaws
+pub mod CsvBackLaws

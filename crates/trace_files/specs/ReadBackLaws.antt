@@ -14,11 +14,11 @@ use Rattle.guest_strings.specs.declared.reference.Reference.{Reference}
 use Rattle.text_lines.specs.Text.{parts_at, ahead, is_blank, is_line_end, lines_of, words_of}
 use Rattle.byteorder.specs.Endian.{little_bytes}
 use Rattle.byteorder.specs.Numbers.{little_number-reads_back}
-use Rattle.trace_files.specs.Ids.{written_below}
-use Rattle.trace_files.specs.IdLaws.{number_told}
+use Rattle.trace_lines.specs.Ids.{written_below}
+use Rattle.trace_lines.specs.IdLaws.{number_told}
 use Rattle.trace_files.specs.Written.{record_bytes, reference_line}
-use Rattle.trace_files.specs.PageIds.{id_of, page_of_id}
-use Rattle.trace_files.specs.PageLines.{is_bar, page_in, words_reference, line_reference, record_page, IsPage, AreReferences}
+use Rattle.trace_lines.specs.PageIds.{id_of, page_of_id}
+use Rattle.trace_lines.specs.PageLines.{is_bar, page_in, words_reference, line_reference, record_page, IsPage, AreReferences}
 
 -- ---- a part that has no end in it
 

@@ -10,7 +10,7 @@ use Rattle.guest_strings.specs.declared.reference.Reference.{Reference}
 use Rattle.trace_files.specs.References.{Flaw, NoIds, BadLine, IsText, BadRecord, IsCompressed, Trace, Ends, Breaks, told, flaw_at_end, due_from, is_of_addresses, joined, lines, pieces_of, trace_of}
 use Rattle.trace_files.specs.declared.fault.TraceFault.{TraceFault}
 use Rattle.trace_files.specs.declared.fault.TraceFault.TheVariants.{NoMemory, CannotRead, Empty, NoColumn, Line, Text, Record, Compressed}
-use Rattle.trace_files.specs.declared.format.TraceFormat.{TraceFormat}
+use Rattle.trace_lines.specs.declared.format.TraceFormat.{TraceFormat}
 use Rattle.trace_files.specs.declared.pieces.Pieces.{Pieces}
 use Rattle.trace_files.specs.declared.trace_file.TraceFile.{TraceFile}
 

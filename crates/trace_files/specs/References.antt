@@ -1,25 +1,16 @@
 -- What references the bytes of a trace tell of.
-use Rattle.std.specs.Prelude.{ℕ, zero, suc, ◌+◌, ◌-◌, ◌^◌, ◌==◌, ◌&&◌, ◌||◌, Bool, true, false, min, nat_le, nat_lt, List, [], ◌∷◌, length, Option, Some, None, if◌then◌else◌}
-use Rattle.std.specs.Option.{is_some, option_map}
-use Rattle.std.specs.List.{list_all}
+use Rattle.std.specs.Prelude.{ℕ, zero, suc, ◌+◌, ◌-◌, ◌^◌, Bool, true, false, min, List, [], ◌∷◌, length, Option, Some, None, if◌then◌else◌}
 use Rattle.text_lines.specs.Text.{ahead, lines_of}
-use Rattle.clock_policy.specs.declared.key.Key.{Key}
 use Rattle.guest_strings.specs.References.{both, is_same_page}
 use Rattle.guest_strings.specs.declared.reference.Reference.{Reference}
-use Rattle.trace_files.specs.AddressLines.{dynamorio_line, lackey_line}
-use Rattle.trace_files.specs.Columns.{column_of_ids, column_page}
-use Rattle.trace_files.specs.PageIds.{page_of_id}
-use Rattle.trace_files.specs.PageLines.{line_reference, record_page, referred}
-use Rattle.trace_files.specs.PlainLines.{compression_at, is_left_out, plain_line}
-use Rattle.trace_files.specs.declared.address_lines.Access.{Access}
-use Rattle.trace_files.specs.declared.address_lines.AddressLine.{AddressLine}
-use Rattle.trace_files.specs.declared.address_lines.AddressLine.TheVariants.{Access as Accessed, Other}
-use Rattle.trace_files.specs.declared.compression.Compression.{Compression}
-use Rattle.trace_files.specs.declared.format.TraceFormat.{TraceFormat}
-use Rattle.trace_files.specs.declared.format.TraceFormat.TheVariants.{Text, Csv, Columns, OracleGeneral, Lackey, DynamoRio}
-use Rattle.trace_files.specs.declared.trace_lines.LineReferences.{LineReferences}
-use Rattle.trace_files.specs.declared.trace_lines.TraceLine.{TraceLine}
-use Rattle.trace_files.specs.declared.trace_lines.TraceLine.TheVariants.{Refers, LeftOut, Names}
+use Rattle.trace_lines.specs.Lines.{said, shows_text, format_behind}
+use Rattle.trace_lines.specs.PlainLines.{compression_at}
+use Rattle.trace_lines.specs.declared.compression.Compression.{Compression}
+use Rattle.trace_lines.specs.declared.format.TraceFormat.{TraceFormat}
+use Rattle.trace_lines.specs.declared.format.TraceFormat.TheVariants.{Text, Csv, Columns, OracleGeneral, Lackey, DynamoRio}
+use Rattle.trace_lines.specs.declared.trace_line.LineReferences.{LineReferences}
+use Rattle.trace_lines.specs.declared.trace_line.TraceLine.{TraceLine}
+use Rattle.trace_lines.specs.declared.trace_line.TraceLine.TheVariants.{Refers, LeftOut, Names}
 
 -- ---- what a trace tells
 
@@ -78,60 +69,6 @@ pieces_of OracleGeneral bytes = records_of bytes
 pieces_of Lackey bytes = lines_of bytes
 pieces_of DynamoRio bytes = lines_of bytes
 
--- ---- what a line or record says
-
-abbrev pub to_page : Key → TraceLine
-to_page page = Refers (record { first = referred false page; second = None })
-
-abbrev pub to_reference : Reference → TraceLine
-to_reference reference = Refers (record { first = reference; second = None })
-
--- a printable character of ASCII, or white space
-unfoldable pub is_text_byte : ℕ → Bool
-is_text_byte byte = (nat_le 32 byte && nat_lt byte 127) || (nat_le 9 byte && nat_lt byte 14)
-
--- whether the first record shows that there are none, but a text
-unfoldable pub shows_text : ℕ → List ℕ → Bool
-shows_text number bytes = (number == 1) && list_all is_text_byte bytes
-
-unfoldable pub record_said : ℕ → List ℕ → Option TraceLine
-record_said number bytes = if shows_text number bytes then None else option_map to_page (record_page bytes)
-
--- an access refers to the page of its first byte, and to that of its last, where that is another
-unfoldable pub second_of : Access → Option Reference
-second_of access = if access.last == access.first then None else Some (referred access.is_written (page_of_id access.last))
-
-abbrev pub first_of : Access → Reference
-first_of access = referred access.is_written (page_of_id access.first)
-
-abbrev pub address_said : AddressLine → TraceLine
-address_said (Accessed access) = Refers (record { first = first_of access; second = second_of access })
-address_said Other = LeftOut
-
--- what a line says that is not left out
-abbrev pub form_said : TraceFormat → List ℕ → Option TraceLine
-form_said Text line = option_map to_reference (line_reference line)
-form_said Csv line = option_map Names (column_of_ids line)
-form_said (Columns column) line = option_map to_page (column_page column line)
-form_said OracleGeneral line = option_map to_reference (line_reference line)
-form_said Lackey line = option_map address_said (lackey_line line)
-form_said DynamoRio line = option_map address_said (dynamorio_line line)
-
-unfoldable pub line_said : TraceFormat → List ℕ → Option TraceLine
-line_said format line = if is_left_out line then Some LeftOut else form_said format line
-
-abbrev pub piece_said : TraceFormat → ℕ → List ℕ → Option TraceLine
-piece_said Text number piece = line_said Text (plain_line number piece)
-piece_said Csv number piece = line_said Csv (plain_line number piece)
-piece_said (Columns column) number piece = line_said (Columns column) (plain_line number piece)
-piece_said OracleGeneral number piece = record_said number piece
-piece_said Lackey number piece = line_said Lackey (plain_line number piece)
-piece_said DynamoRio number piece = line_said DynamoRio (plain_line number piece)
-
--- what the line or record of this number says, if anything: none of a file that is compressed does
-unfoldable pub said : TraceFormat → ℕ → List ℕ → Option TraceLine
-said format number piece = if is_some (compression_at number piece) then None else piece_said format number piece
-
 -- ---- what is wrong with one that says nothing
 
 unfoldable pub record_flaw : ℕ → List ℕ → Flaw
@@ -165,21 +102,6 @@ line_given (Names column) rest = rest
 abbrev pub line_or : Flaw → Option TraceLine → Trace → Trace
 line_or flaw None rest = Breaks flaw
 line_or flaw (Some line) rest = line_given line rest
-
--- behind the names of its columns a table has lines of columns
-abbrev pub csv_behind : Option TraceLine → TraceFormat
-csv_behind None = Csv
-csv_behind (Some (Refers line)) = Csv
-csv_behind (Some LeftOut) = Csv
-csv_behind (Some (Names column)) = Columns column
-
-abbrev pub format_behind : Option TraceLine → TraceFormat → TraceFormat
-format_behind line Text = Text
-format_behind line Csv = csv_behind line
-format_behind line (Columns column) = Columns column
-format_behind line OracleGeneral = OracleGeneral
-format_behind line Lackey = Lackey
-format_behind line DynamoRio = DynamoRio
 
 -- the lines or records behind the first so many
 unfoldable pub lines : TraceFormat → ℕ → List (List ℕ) → Trace

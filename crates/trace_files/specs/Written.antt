@@ -1,12 +1,21 @@
 -- What is written of a string of references, to be read by libCacheSim or by `policies`.
-use Rattle.std.specs.Prelude.{ℕ, ◌+◌, ◌-◌, ◌*◌, ◌^◌, ◌<◌, cond, nat_lt, min, List, [], ◌∷◌, ◌++◌, codes}
+use Rattle.std.specs.Prelude.{ℕ, ◌+◌, ◌-◌, ◌*◌, ◌^◌, ◌<◌, cond, nat_lt, min, List, [], ◌∷◌, ◌++◌, codes, Some}
 use Rattle.std.specs.Fmt.{decimal}
 use Rattle.byteorder.specs.Endian.{little_bytes}
 use Rattle.clock_policy.specs.declared.key.Key.{Key}
 use Rattle.clock_policy.specs.Text.{key_text}
 use Rattle.guest_strings.specs.declared.reference.Reference.{Reference}
 use Rattle.page_policies.specs.Optimal.{next_use}
-use Rattle.trace_files.specs.PageIds.{id_of}
+use Rattle.trace_lines.specs.PageIds.{id_of}
+use Rattle.trace_lines.specs.declared.format.IdColumn.{IdColumn}
+
+-- the line of names of a table
+abbrev pub header : List ℕ
+header = codes "time,id,size"
+
+-- the column of ids of a table that is written
+abbrev pub written_column : IdColumn
+written_column = record { place = 1; separator = Some 44 }
 
 -- time, id and size, which is 1
 abbrev pub csv_row : ℕ → Key → List ℕ

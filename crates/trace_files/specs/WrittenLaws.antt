@@ -9,7 +9,7 @@ use Rattle.page_policies.specs.Optimal.{next_use}
 use Rattle.page_policies.specs.NextUses.{next_uses}
 use Rattle.whole_strings.specs.PlaceStepLaws.{Uncovered, uncover, length_uses}
 use Rattle.byteorder.specs.Endian.{little_bytes}
-use Rattle.trace_files.specs.PageIds.{id_of}
+use Rattle.trace_lines.specs.PageIds.{id_of}
 use Rattle.trace_files.specs.Written.{short_time, next_time, record_bytes, records}
 
 -- a record, part by part

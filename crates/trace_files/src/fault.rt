@@ -1,8 +1,8 @@
 //! Why a trace is not read to its end.
 
-use crate::compression::Compression;
 use std::alloc::AllocError;
 use thiserror::Error;
+use trace_lines::Compression;
 
 /// Why a trace is not read to its end. Lines and records are counted from 1.
 #[derive(Debug, Drop, Error)]

@@ -1,14 +1,16 @@
 //! Laws on what is written of a string and read again.
 
-ghost use Rattle.std.specs.Prelude.{◌≡◌, ℕ, List, Some, map};
+ghost use Rattle.std.specs.Prelude.{◌≡◌, ◌<◌, ◌^◌, ℕ, List, Some, map};
 ghost use Rattle.std.specs.List.{flat_map};
 ghost use Rattle.text_lines.specs.Text.{lines_of};
 ghost use Rattle.clock_policy.specs.declared.key.Key.{Key};
 ghost use Rattle.guest_strings.specs.declared.reference.Reference.{Reference};
-ghost use Rattle.trace_files.specs.PageIds.{page_of_id};
-ghost use Rattle.trace_files.specs.Written.{record_bytes, reference_line};
-ghost use Rattle.trace_files.specs.PageLines.{AreReferences, IsPage, line_reference};
-ghost use Rattle.trace_files.specs.PageLines.{record_page};
+ghost use Rattle.trace_lines.specs.PageIds.{page_of_id};
+ghost use Rattle.trace_lines.specs.Columns.{column_of_ids, column_page};
+ghost use Rattle.trace_files.specs.Written.{csv_row, header, record_bytes, reference_line};
+ghost use Rattle.trace_files.specs.Written.{written_column};
+ghost use Rattle.trace_lines.specs.PageLines.{AreReferences, IsPage, line_reference};
+ghost use Rattle.trace_lines.specs.PageLines.{record_page};
 
 /// The lines that are written of references are read as these references.
 #[tactic(auto, using(crate::specs::ReadBackLaws::lines_read))]
@@ -16,6 +18,14 @@ pub fn written_lines_are_read()
     ensures { (references : List Reference) → AreReferences references
         → map line_reference (lines_of (flat_map reference_line references))
         ≡ map (λ (reference : Reference). Some reference) references }
+{}
+
+/// The line of names of a table names the column of ids, and a row that is written of a page is read as that page.
+#[tactic(auto, using(crate::specs::CsvBackLaws::header_read, crate::specs::CsvBackLaws::row_read))]
+pub fn written_rows_are_read()
+    ensures names { column_of_ids header ≡ Some written_column }
+    ensures rows { (time : ℕ) (page : Key) → time < 2 ^ 64 → IsPage page
+        → column_page written_column (csv_row time page) ≡ Some page }
 {}
 
 /// A record that is written of a page is read as that page.

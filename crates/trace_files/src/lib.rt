@@ -1,28 +1,22 @@
 //! Traces in files: strings of references as other tools and `policies trace` write them, read as they come; and what is written of a string.
 #![tactic(auto)]
 
-mod address_lines;
-mod columns;
-mod compression;
 mod fault;
-mod format;
 mod laws;
 mod lines;
 mod next_reference;
-mod number_text;
-mod page_lines;
 mod pieces;
-mod plain_lines;
 mod reading;
 mod trace_file;
-mod trace_lines;
 mod whole_trace;
 mod writing;
 
-pub use compression::Compression;
 pub use fault::TraceFault;
-pub use format::{IdColumn, TraceFormat};
-pub use laws::{ids_have_pages_of_their_own, written_lines_are_read, written_records_are_read};
+pub use laws::{
+    ids_have_pages_of_their_own, written_lines_are_read, written_records_are_read,
+    written_rows_are_read,
+};
 pub use trace_file::{BLOCK, TraceFile, open_trace};
+pub use trace_lines::{Compression, IdColumn, TraceFormat};
 pub use whole_trace::{read_references, read_sample, read_whole};
 pub use writing::{CSV_HEADER, write_csv, write_line, write_records};

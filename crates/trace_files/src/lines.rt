@@ -14,13 +14,13 @@ ghost use Rattle.trace_files.specs.References.{
 };
 ghost use Rattle.trace_files.specs.ReferenceAnswers.{BreaksBy, Names, Tells, lines_left};
 
-use crate::compression::compression_at;
 use crate::fault::TraceFault;
-use crate::format::TraceFormat;
 use crate::pieces::Pieces;
-use crate::trace_lines::{LineReferences, TraceLine, format_behind, said, shows_text};
 use std::alloc::{AllocError, Global};
 use std::io::BufRead;
+use trace_lines::{
+    LineReferences, TraceFormat, TraceLine, compression_at, format_behind, said, shows_text,
+};
 
 /// How many characters of a bad line are told.
 const SHOWN: usize = 60;

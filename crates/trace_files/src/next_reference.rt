@@ -5,10 +5,10 @@ ghost use Rattle.trace_files.specs.References.{Gives, Trace, before, is_of_addre
 ghost use Rattle.trace_files.specs.ReferenceAnswers.{Names, Tells, due_left, joined_left};
 
 use crate::fault::TraceFault;
-use crate::format::TraceFormat;
 use crate::pieces::Pieces;
 use guest_strings::Reference;
 use std::io::BufRead;
+use trace_lines::TraceFormat;
 
 /// The next reference, in which neighbours to one page are one: the last one is held, since the next may be to the same page.
 pub(crate) fn next_joined<'a, B: BufRead + Drop>(

@@ -6,11 +6,11 @@ ghost use Rattle.trace_files.specs.References.{counted, pieces_of, records_of};
 ghost use Rattle.trace_files.specs.ReferenceAnswers.{IsOutside, Names, TakesPiece};
 
 use crate::fault::TraceFault;
-use crate::format::TraceFormat;
 use crate::reading::{read_line, read_record};
 use std::alloc::Global;
 use std::io;
 use std::io::{BufRead, ErrorKind};
+use trace_lines::TraceFormat;
 
 /// A trace, line by line or record by record.
 #[derive(Drop)]

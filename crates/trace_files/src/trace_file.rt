@@ -32,7 +32,6 @@ ghost use Rattle.trace_files.specs.ReferenceAnswers.{
 };
 
 use crate::fault::TraceFault;
-use crate::format::TraceFormat;
 use crate::next_reference::{next_due, next_joined};
 use crate::pieces::Pieces;
 use clock_policy::Key;
@@ -41,6 +40,7 @@ use std::alloc::Global;
 use std::io::{BufRead, BufReader, Read};
 use std::rt::Files;
 use std::{fs, io};
+use trace_lines::TraceFormat;
 
 /// How many bytes of a trace are read at a time.
 const BYTES: usize = 1 << 16;

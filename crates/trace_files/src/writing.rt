@@ -4,7 +4,7 @@
 ghost use Rattle.std.specs.Prelude.{◌≡◌, ◌+◌, ◌<◌, ◌^◌, length, OnOk};
 ghost use Rattle.std.specs.Io.KnownBytes.{Appends};
 ghost use Rattle.page_policies.specs.NextUses.{next_uses};
-ghost use Rattle.trace_files.specs.PageIds.{id_of};
+ghost use Rattle.trace_lines.specs.PageIds.{id_of};
 ghost use Rattle.trace_files.specs.Written.{csv_line, reference_line, next_time, short_time};
 ghost use Rattle.trace_files.specs.Written.{record_bytes, records};
 

@@ -1,7 +1,6 @@
 -- One reference more, and what it writes back.
 use Rattle.std.specs.Prelude.{◌≡◌, ℕ, zero, suc, ◌+◌, ◌<◌, ◌≤◌, Bool, true, false, cond, nat_lt, List, [], ◌∷◌, ◌++◌, map, take, drop, length, slice_index_or, refl}
-use Rattle.std.proofs.Common.{add-one, arith, sym, ap, subst, ◌∙◌, append_assoc}
-use Rattle.std.proofs.lemmas.Bool.Decides.{nat_tests}
+use Rattle.std.proofs.Common.{add-one, arith, sym, ap, subst, ◌∙◌, append_assoc, append-nil}
 use Rattle.std.proofs.lemmas.List.{drop_more}
 use Rattle.clock_policy.specs.declared.key.Key.{Key}
 use Rattle.guest_strings.specs.declared.reference.Reference.{Reference}
@@ -19,35 +18,22 @@ before_more i string d h = rw add-one (from i string d h)
     from zero (r ∷ rs) d h = refl
     from (suc i) (r ∷ rs) d h = ap (λ (l : List Key). r.page ∷ l) (from i rs d (omega (arith, h)))
 
--- what the policy misses of a string that begins with these pages, told of the policy behind them
+-- what the policy misses of a string that begins with these pages, by all that is counted after them
 abbrev pub Follows : (List Key → ℕ) → List Key → (List Key → ℕ) → Type 0
-Follows misses_of begun to_miss = (string : List Key) → misses_of (begun ++ string) ≡ misses_of begun + to_miss string
+Follows misses_of begun all = (string : List Key) → misses_of (begun ++ string) ≡ all string
 
-pub misses_more : (misses_of to_miss later : List Key → ℕ) (begun : List Key) (p : Key) (n : ℕ) → Follows misses_of begun to_miss → ((string : List Key) → to_miss (p ∷ string) ≡ n + later string) → later [] ≡ 0 →
-    misses_of (begun ++ p ∷ []) ≡ misses_of begun + n
-misses_more misses_of to_miss later begun p n follows refers none =
-    let a : misses_of (begun ++ p ∷ []) ≡ misses_of begun + to_miss (p ∷ []) = follows (p ∷ []) in
-    let b : to_miss (p ∷ []) ≡ n + later [] = refers [] in
-    omega (arith, a, b, none)
+-- so much is counted of them
+pub so_far : (misses_of all : List Key → ℕ) (begun : List Key) → Follows misses_of begun all → misses_of begun ≡ all []
+so_far misses_of all begun follows = ap misses_of (sym (append-nil begun)) ∙ follows []
 
-pub follows_more : (misses_of to_miss later : List Key → ℕ) (begun : List Key) (p : Key) (n : ℕ) → Follows misses_of begun to_miss → ((string : List Key) → to_miss (p ∷ string) ≡ n + later string) → later [] ≡ 0 →
-    Follows misses_of (begun ++ p ∷ []) later
-follows_more misses_of to_miss later begun p n follows refers none = λ string.
-    let a : misses_of ((begun ++ p ∷ []) ++ string) ≡ misses_of (begun ++ p ∷ string) = ap misses_of (append_assoc begun (p ∷ []) string) in
-    let b : misses_of (begun ++ p ∷ string) ≡ misses_of begun + to_miss (p ∷ string) = follows (p ∷ string) in
-    let d : to_miss (p ∷ string) ≡ n + later string = refers string in
-    let e : misses_of (begun ++ p ∷ []) ≡ misses_of begun + n = misses_more misses_of to_miss later begun p n follows refers none in
-    omega (arith, a, b, d, e)
+pub follows_more : (misses_of all later : List Key → ℕ) (begun : List Key) (p : Key) → Follows misses_of begun all → ((string : List Key) → all (p ∷ string) ≡ later string) → Follows misses_of (begun ++ p ∷ []) later
+follows_more misses_of all later begun p follows refers = λ string. ap misses_of (append_assoc begun (p ∷ []) string) ∙ follows (p ∷ string) ∙ refers string
 
 -- whether it misses
-pub missed_is : (misses_of to_miss later : List Key → ℕ) (begun : List Key) (p : Key) (is_miss : Bool) → Follows misses_of begun to_miss → ((string : List Key) → to_miss (p ∷ string) ≡ cond is_miss 1 0 + later string) → later [] ≡ 0 →
+pub missed_is : (misses_of all later : List Key → ℕ) (begun : List Key) (p : Key) (is_miss : Bool) → Follows misses_of begun all → ((string : List Key) → all (p ∷ string) ≡ later string) → is_miss ≡ nat_lt (all []) (later []) →
     missed misses_of begun p ≡ is_miss
-missed_is misses_of to_miss later begun p is_miss follows refers none =
-    by_miss is_miss (misses_of begun) (misses_of (begun ++ p ∷ [])) (misses_more misses_of to_miss later begun p (cond is_miss 1 0) follows refers none)
-  where
-    by_miss : (b : Bool) (n k : ℕ) → k ≡ n + cond b 1 0 → nat_lt n k ≡ b
-    by_miss true n k is = grind (arith, nat_tests, is)
-    by_miss false n k is = grind (arith, nat_tests, is)
+missed_is misses_of all later begun p is_miss follows refers is =
+    (λ i. nat_lt (so_far misses_of all begun follows i) (so_far misses_of later (begun ++ p ∷ []) (follows_more misses_of all later begun p follows refers) i)) ∙ sym is
 
 -- a reference more
 pub written_more : (misses_of : List Key → ℕ) (string : List Reference) (i : ℕ) (d : Reference) (is_miss : Bool) (old new : Key → Bool) → i < length string → missed misses_of (before i string) (slice_index_or string i d).page ≡ is_miss →
@@ -76,25 +62,22 @@ written_last misses_of string i count dirty end whole =
     nothing (suc i) [] h = refl
     nothing (suc i) (r ∷ rs) h = nothing i rs (omega (arith, h))
 
--- where a policy begins, with nothing to miss of no reference
-pub follows_first : (misses_of to_miss : List Key → ℕ) → ((string : List Key) → to_miss string ≡ misses_of string) → to_miss [] ≡ 0 → Follows misses_of [] to_miss
-follows_first misses_of to_miss same none = λ string.
-    let a : to_miss string ≡ misses_of string = same string in
-    let b : to_miss [] ≡ misses_of [] = same [] in omega (arith, a, b, none)
-
 -- what is so behind a reference more
 pub record Stepped (misses_of later : List Key → ℕ) (string : List Reference) (i : ℕ) (dirty : Key → Bool) (count all : ℕ) : Type 0 where
   pub follows : Follows misses_of (before i string) later
   pub whole : count + written_from misses_of (before i string) dirty (drop i string) ≡ all
 
-pub reference_more : (misses_of to_miss later : List Key → ℕ) (string : List Reference) (i : ℕ) (d : Reference) (is_miss : Bool) (old new : Key → Bool) (count one n all : ℕ) → i < length string → Follows misses_of (before i string) to_miss →
-    ((s : List Key) → to_miss ((slice_index_or string i d).page ∷ s) ≡ n + later s) → n ≡ cond is_miss 1 0 → later [] ≡ 0 →
+pub reference_more : (misses_of counted later : List Key → ℕ) (string : List Reference) (i : ℕ) (d : Reference) (is_miss : Bool) (old new : Key → Bool) (count one all : ℕ) → i < length string → Follows misses_of (before i string) counted →
+    ((s : List Key) → counted ((slice_index_or string i d).page ∷ s) ≡ later s) → is_miss ≡ nat_lt (counted []) (later []) →
     one ≡ dirtied is_miss old (slice_index_or string i d) → ((q : Key) → new q ≡ dirty_after is_miss old (slice_index_or string i d) q) →
     count + written_from misses_of (before i string) old (drop i string) ≡ all → Stepped misses_of later string (i + 1) new (count + one) all
-reference_more misses_of to_miss later string i d is_miss old new count one n all h follows refers outcome none is dirty whole =
-    let by : (s : List Key) → to_miss ((slice_index_or string i d).page ∷ s) ≡ cond is_miss 1 0 + later s = λ s. refers s ∙ ap (λ (k : ℕ). k + later s) outcome in
-    let missing : missed misses_of (before i string) (slice_index_or string i d).page ≡ is_miss = missed_is misses_of to_miss later (before i string) (slice_index_or string i d).page is_miss follows by none in record {
-      follows = subst (λ (b : List Key). Follows misses_of b later) (sym (before_more i string d h)) (follows_more misses_of to_miss later (before i string) (slice_index_or string i d).page (cond is_miss 1 0) follows by none);
+reference_more misses_of counted later string i d is_miss old new count one all h follows refers outcome is dirty whole =
+    let missing : missed misses_of (before i string) (slice_index_or string i d).page ≡ is_miss = missed_is misses_of counted later (before i string) (slice_index_or string i d).page is_miss follows refers outcome in record {
+      follows = subst (λ (b : List Key). Follows misses_of b later) (sym (before_more i string d h)) (follows_more misses_of counted later (before i string) (slice_index_or string i d).page follows refers);
       whole = whole_more count one (dirtied is_miss old (slice_index_or string i d)) (written_from misses_of (before (i + 1) string) new (drop (i + 1) string)) (written_from misses_of (before i string) old (drop i string)) all whole
           (written_more misses_of string i d is_miss old new h missing dirty) is;
     }
+
+-- what is written back, by what is missed of each string
+pub written_alike : (f g : List Key → ℕ) (string : List Reference) → ((s : List Key) → f s ≡ g s) → write_backs f string ≡ write_backs g string
+written_alike f g string same = ap (λ (h : List Key → ℕ). write_backs h string) (λ i s. same s i)

@@ -1,15 +1,15 @@
 //! Pages that were written since they came in.
 
-ghost use Rattle.std.specs.Prelude.{◌≡◌, ◌↔◌, ◌≤◌, cond, false, Err, IfOk, OnOk};
+ghost use Rattle.std.specs.Prelude.{◌≡◌, ◌+◌, ◌≤◌, [], ◌∷◌, cond, false, nat_lt, IfOk, OnOk};
 ghost use Rattle.std.specs.HashSet.{contains};
 ghost use Rattle.clock_policy.specs.declared.key.Key.{Key};
-ghost use Rattle.page_policies.specs.HitsAndMisses.{miss_count};
+ghost use Rattle.miss_counts.specs.Playing.{GoesOn};
 ghost use Rattle.page_policies.specs.Strings.{is_page};
 ghost use Rattle.write_backs.specs.WriteBacks.{is_dirty, dirtied, dirty_after, write_backs};
 
 use clock_policy::Key;
 use guest_strings::Reference;
-use page_policies::{Frames, HitOrMiss, Policy, PolicyRefusal};
+use miss_counts::Counting;
 use std::alloc::{AllocError, Global};
 use std::collections::HashSet;
 
@@ -18,15 +18,6 @@ fn none_dirty(alloc: Global) -> HashSet<Key>
     ensures { (q : Key) → contains is_page result q ≡ false }
 {
     HashSet::new(alloc)
-}
-
-fn is_miss(outcome: HitOrMiss) -> bool
-    ensures { miss_count outcome ≡ cond result 1 0 }
-{
-    match outcome {
-        HitOrMiss::Hit => false,
-        HitOrMiss::Miss => true,
-    }
 }
 
 /// A page that came in is not dirty any more.
@@ -58,22 +49,31 @@ fn note(dirty: &mut HashSet<Key>, reference: Reference, is_miss: bool) -> Result
     }
 }
 
-/// How many pages of a string are written back under the policy with so many frames.
-pub fn write_backs<P: Policy>(
-    alloc: Global,
-    frames: Frames,
-    string: &[Reference],
-) -> Result<usize, PolicyRefusal>
-    ensures count { IfOk result (λ count. count ≡ write_backs (P.misses frames.number)
-        string.now) }
-    ensures bad_size { (result ≡ Err PolicyRefusal.BadSize) ↔ P.refuses frames.number }
+/// A page is used under a policy. Whether it missed.
+fn misses_one<C: Counting>(player: &mut C, page: Key) -> Result<bool, AllocError>
+    ensures miss { IfOk result (λ miss. miss ≡ nat_lt (C.all player.old []) (C.all player.new [])) }
+    ensures few { OnOk result (C.all player.new [] ≤ C.all player.old [] + 1) }
+    ensures goes_on { OnOk result (GoesOn C.all (page ∷ []) player.old player.new) }
 {
-    let mut policy = P::new(alloc, frames)?;
+    let before = player.count();
+    player.play(&[page])?;
+    Ok(before < player.count())
+}
+
+/// How many pages of a string are written back under a policy that begins.
+pub fn write_backs<C: Counting>(
+    alloc: Global,
+    player: &mut C,
+    string: &[Reference],
+) -> Result<usize, AllocError>
+    requires { C.all player.old [] ≡ 0 }
+    ensures { IfOk result (λ count. count ≡ write_backs (C.all player.old) string.now) }
+{
     let mut dirty = none_dirty(alloc);
     let mut count = 0;
     'references: for reference in string {
-        let outcome = policy.refer(reference.page)?;
-        count += note(&mut dirty, *reference, is_miss(outcome))?;
+        let is_miss = misses_one(player, reference.page)?;
+        count += note(&mut dirty, *reference, is_miss)?;
     }
     Ok(count)
 }

@@ -1,17 +1,19 @@
 //! A table of what is written back.
 
-ghost use Rattle.std.specs.Prelude.{◌≡◌, ◌↔◌, Err, true, false, IfOk};
+ghost use Rattle.std.specs.Prelude.{◌≡◌, ◌↔◌, Err, List, [], false, map, IfOk};
 ghost use Rattle.std.specs.List.{AllZip};
-ghost use Rattle.miss_counts.specs.Counted.{all_serve, each_serves};
+ghost use Rattle.clock_policy.specs.declared.key.Key.{Key};
+ghost use Rattle.miss_counts.specs.Counted.{any_served};
 ghost use Rattle.write_backs.specs.WriteBacks.{write_backs};
 ghost use Rattle.write_backs.specs.WrittenBack.{IsWrittenBack};
 
 use crate::dirty_pages::write_backs;
 use guest_strings::Reference;
 use miss_counts::{
-    PlayCount, PolicyCounts, PolicyName, Stage, StageListener, counts_by, each_serves,
+    AnyPlayer, Counting, PlayCount, PolicyCounts, PolicyName, Stage, StageListener, any_served,
+    counts_by,
 };
-use page_policies::{Frames, Policy, PolicyRefusal};
+use page_policies::{Frames, PolicyRefusal};
 use std::alloc::{AllocError, Global};
 
 /// What a policy writes back of a string.
@@ -23,12 +25,10 @@ struct WriteBackCount<'s> {
 impl<'s> PlayCount for WriteBackCount<'s> {
     ghost counts = { λ counting misses. write_backs misses counting.string.now };
 
-    fn count_under<P: Policy>(
-        &self,
-        alloc: Global,
-        frames: Frames,
-    ) -> Result<usize, PolicyRefusal> {
-        write_backs::<P>(alloc, frames, self.string)
+    fn count_under(&self, alloc: Global, player: AnyPlayer) -> Result<u64, AllocError> {
+        let mut player = player;
+        let count = write_backs(alloc, &mut player, self.string)?;
+        Ok(count as u64)
     }
 }
 
@@ -40,7 +40,6 @@ fn counts_of(
     string: &[Reference],
     policies: &[PolicyName],
 ) -> Result<PolicyCounts, AllocError>
-    requires { all_serve policies.now frames.number ≡ true }
     ensures { IfOk result (IsWrittenBack policies.now string.now frames) }
 {
     let counting = WriteBackCount { string };
@@ -54,7 +53,8 @@ fn counts_of(
     )
 }
 
-/// What is written back of a string with each of these numbers of frames, under the policies that are asked for.
+/// What is written back of a string with each of these numbers of frames, under the policies that are asked for. It is refused where
+/// nothing is counted.
 pub fn write_back_rows<P: StageListener>(
     alloc: Global,
     frames: &[Frames],
@@ -64,17 +64,16 @@ pub fn write_back_rows<P: StageListener>(
 ) -> Result<Vec<PolicyCounts>, PolicyRefusal>
     ensures rows { IfOk result (λ rows. AllZip (IsWrittenBack policies.now string.now) frames.now
         rows.items) }
-    ensures bad_size { (result ≡ Err PolicyRefusal.BadSize) ↔ (each_serves policies.now frames.now ≡
-        false) }
+    ensures bad_size { (result ≡ Err PolicyRefusal.BadSize) ↔ (any_served policies.now (map (λ f.
+        f.number) frames.now) ≡ false) }
 {
-    if !each_serves(policies, frames) {
+    if !any_served(policies, frames) {
         return Err(PolicyRefusal::BadSize);
     }
     Ok(count_rows(alloc, frames, string, policies, progress)?)
 }
 
-/// The same rows. Each policy serves each number of frames.
-#[tactic(auto, using(miss_counts::specs::ServingLaws::each_size_served))]
+/// The same rows.
 fn count_rows<P: StageListener>(
     alloc: Global,
     frames: &[Frames],
@@ -82,7 +81,6 @@ fn count_rows<P: StageListener>(
     policies: &[PolicyName],
     progress: &mut P,
 ) -> Result<Vec<PolicyCounts>, AllocError>
-    requires { each_serves policies.now frames.now ≡ true }
     ensures { IfOk result (λ rows. AllZip (IsWrittenBack policies.now string.now) frames.now
         rows.items) }
 {

@@ -1,6 +1,7 @@
 -- S3-FIFO is a way to serve a string: a proof.
 use Rattle.std.specs.Prelude.{◌≡◌, ℕ, zero, suc, ◌+◌, ◌-◌, ◌*◌, ◌<◌, ◌≤◌, ◌⊎◌, Bool, true, false, cond, nat_lt, nat_le, List, [], ◌++◌, length, Option, Some, None, refl}
 use Rattle.std.proofs.Common.{arith, sym, ap, inl, inr, ◌∙◌}
+use Rattle.std.proofs.Math.Nat.{mul-le-mul_left}
 use Rattle.std.proofs.lemmas.Bool.Decides.{nat_tests}
 use Rattle.clock_policy.specs.declared.key.Key.{Key}
 use Rattle.page_policies.specs.Strings.{holds}
@@ -8,7 +9,9 @@ use Rattle.page_policies.specs.Ordered.{to_front, last_of, but_last}
 use Rattle.page_policies.specs.Demand.{number, MayLeave, IsPlayed}
 use Rattle.page_policies.specs.NumberLaws.{less, most}
 use Rattle.page_policies.specs.PartLaws.{number_append, holds_append, there_first, there_second, length_parts, front_there, number_front, length_front, length_moved, number_moved, length_but_last, number_but_last, last_split, last_there, none_last, some_last, hit_leaves, miss_leaves, Serves, served_plays}
-use Rattle.younger_policies.specs.S3Fifo.{S3FifoState, main_frames, pages_in, main_again, tail_freq, main_out, evicted_main, main_turned, main_cut, small_up, small_out, evicted_small, evicted, room_made, came_back, came, inserted, used, in_s3_fifo, s3_fifo, s3_fifo_misses}
+use Rattle.younger_policies.specs.declared.s3_fifo_shares.S3FifoShares.{S3FifoShares}
+use Rattle.younger_policies.specs.declared.s3_fifo_shares.S3FifoRooms.{S3FifoRooms}
+use Rattle.younger_policies.specs.S3Fifo.{S3FifoState, rooms_of, moved_freq, pages_in, main_again, tail_freq, main_out, evicted_main, main_turned, main_cut, small_up, small_out, evicted_small, evicted, room_made, came_back, came, inserted, used, in_s3_fifo, s3_fifo, s3_fifo_misses}
 
 -- the pages in frames
 abbrev pages : S3FifoState → List Key
@@ -80,8 +83,8 @@ record Within (s t : S3FifoState) : Type 0 where
   small : t.small ≡ s.small
   fewer : Fewer 0 s t
 
-cuts : (m : ℕ) (s : S3FifoState) → Within s (main_cut m s)
-cuts m s = elim (nat_lt (main_frames m) (length s.main)) as (λ b. Within s (cond b (main_turned s) s)) [
+cuts : (r : S3FifoRooms) (s : S3FifoState) → Within s (main_cut r s)
+cuts r s = elim (nat_lt r.main (length s.main)) as (λ b. Within s (cond b (main_turned s) s)) [
   | true ↦ let f : FromMain s (main_turned s) = evicts_main (3 * length s.main) s in record { small = f.small; fewer = from_main s (main_turned s) f }
   | false ↦ record { small = refl; fewer = record { few = omega arith; fewer = λ test. omega arith } }
 ]
@@ -91,28 +94,28 @@ record Up (s t : S3FifoState) : Type 0 where
   small : length t.small + 1 ≡ length s.small
   fewer : Fewer 0 s t
 
-goes_up : (m : ℕ) (t : Key) (s : S3FifoState) → last_of s.small ≡ Some t → Up s (small_up m (Some t) s)
-goes_up m t s is =
+goes_up : (r : S3FifoRooms) (t : Key) (s : S3FifoState) → last_of s.small ≡ Some t → Up s (small_up r (Some t) s)
+goes_up r t s is =
     let some : 1 ≤ length s.small = some_last s.small t is in
     let e : length (but_last s.small) ≡ length s.small - 1 = length_but_last s.small in
     let k : length (to_front t s.main) ≤ length s.main + 1 = length_front t s.main in
-    let c : Within (record { small = but_last s.small; main = to_front t s.main; ghosts = s.ghosts; freq = s.freq }) (small_up m (Some t) s) =
-    cuts m (record { small = but_last s.small; main = to_front t s.main; ghosts = s.ghosts; freq = s.freq }) in
-    let few : pages_in (small_up m (Some t) s) + 0 ≤ length (but_last s.small) + length (to_front t s.main) = c.fewer.few in
-    let small : (small_up m (Some t) s).small ≡ but_last s.small = c.small in
-    let same : length (small_up m (Some t) s).small ≡ length (but_last s.small) = ap length small in record {
+    let c : Within (record { small = but_last s.small; main = to_front t s.main; ghosts = s.ghosts; freq = moved_freq r.moved t s.freq }) (small_up r (Some t) s) =
+    cuts r (record { small = but_last s.small; main = to_front t s.main; ghosts = s.ghosts; freq = moved_freq r.moved t s.freq }) in
+    let few : pages_in (small_up r (Some t) s) + 0 ≤ length (but_last s.small) + length (to_front t s.main) = c.fewer.few in
+    let small : (small_up r (Some t) s).small ≡ but_last s.small = c.small in
+    let same : length (small_up r (Some t) s).small ≡ length (but_last s.small) = ap length small in record {
       small = omega (arith, same, e, some);
       fewer = record {
         few = omega (arith, few, e, some, k);
         fewer = λ test.
-            let f : count test (small_up m (Some t) s) ≤ number test (but_last s.small) + number test (to_front t s.main) = c.fewer.fewer test in
+            let f : count test (small_up r (Some t) s) ≤ number test (but_last s.small) + number test (to_front t s.main) = c.fewer.fewer test in
             let g : number test (but_last s.small) + cond (test t) 1 0 ≡ number test s.small = last_split test s.small t is in
             let h : number test (to_front t s.main) ≤ number test s.main + cond (test t) 1 0 = number_front test t s.main in omega (arith, f, g, h);
       };
     }
 
-goes_out : (m : ℕ) (t : Key) (s : S3FifoState) → last_of s.small ≡ Some t → Fewer 1 s (small_out m (Some t) s)
-goes_out m t s is =
+goes_out : (r : S3FifoRooms) (t : Key) (s : S3FifoState) → last_of s.small ≡ Some t → Fewer 1 s (small_out r (Some t) s)
+goes_out r t s is =
     let some : 1 ≤ length s.small = some_last s.small t is in
     let e : length (but_last s.small) ≡ length s.small - 1 = length_but_last s.small in record {
       few = omega (arith, e, some);
@@ -139,40 +142,46 @@ after s t u f (inr g) = inr (
 itself : (s : S3FifoState) → Fewer 0 s s
 itself s = record { few = omega arith; fewer = λ test. omega arith }
 
-evicts_small : (m n : ℕ) (s : S3FifoState) → length s.small ≤ n → Evicts s (evicted_small m n s)
-evicts_small m zero s few = inr (itself s, omega (arith, few))
-evicts_small m (suc n) s few = elim (nat_lt 1 (tail_freq (last_of s.small) s)) as (λ b. nat_lt 1 (tail_freq (last_of s.small) s) ≡ b → Evicts s (cond b (evicted_small m n (small_up m (last_of s.small) s)) (small_out m (last_of s.small) s))) [
-  | true ↦ λ h. up (last_of s.small) (evicts_small m n) refl h
+evicts_small : (r : S3FifoRooms) (n : ℕ) (s : S3FifoState) → length s.small ≤ n → Evicts s (evicted_small r n s)
+evicts_small r zero s few = inr (itself s, omega (arith, few))
+evicts_small r (suc n) s few = elim (nat_lt 1 (tail_freq (last_of s.small) s)) as (λ b. nat_lt 1 (tail_freq (last_of s.small) s) ≡ b → Evicts s (cond b (evicted_small r n (small_up r (last_of s.small) s)) (small_out r (last_of s.small) s))) [
+  | true ↦ λ h. up (last_of s.small) (evicts_small r n) refl h
   | false ↦ λ h. out (last_of s.small) refl
 ] refl
   where
-    up : (o : Option Key) → ((t : S3FifoState) → length t.small ≤ n → Evicts t (evicted_small m n t)) → last_of s.small ≡ o → nat_lt 1 (tail_freq o s) ≡ true → Evicts s (evicted_small m n (small_up m o s))
+    up : (o : Option Key) → ((t : S3FifoState) → length t.small ≤ n → Evicts t (evicted_small r n t)) → last_of s.small ≡ o → nat_lt 1 (tail_freq o s) ≡ true → Evicts s (evicted_small r n (small_up r o s))
     up None more is h = cc
-    up (Some t) more is h = let u : Up s (small_up m (Some t) s) = goes_up m t s is in
-        after s (small_up m (Some t) s) (evicted_small m n (small_up m (Some t) s)) u.fewer
-        (more (small_up m (Some t) s) (let e : length (small_up m (Some t) s).small + 1 ≡ length s.small = u.small in omega (arith, e, few)))
+    up (Some t) more is h = let u : Up s (small_up r (Some t) s) = goes_up r t s is in
+        after s (small_up r (Some t) s) (evicted_small r n (small_up r (Some t) s)) u.fewer
+        (more (small_up r (Some t) s) (let e : length (small_up r (Some t) s).small + 1 ≡ length s.small = u.small in omega (arith, e, few)))
 
-    out : (o : Option Key) → last_of s.small ≡ o → Evicts s (small_out m o s)
+    out : (o : Option Key) → last_of s.small ≡ o → Evicts s (small_out r o s)
     out None is = inr (itself s, none_last s.small is)
-    out (Some t) is = inl (goes_out m t s is)
+    out (Some t) is = inl (goes_out r t s is)
 
 above : (a b : ℕ) → nat_le a b ≡ false → b < a
 above a b h = grind (arith, nat_tests)
 
-evicts_other : (m : ℕ) (s : S3FifoState) → 10 * length s.small < m → m ≤ pages_in s → Fewer 1 s (main_turned s)
-evicts_other m s few full = from_main_one s (main_turned s) (evicts_main (3 * length s.main) s) (omega (arith, few, full))
+-- what the shares of m frames are: S has a part of them that is no more than all
+record Shared (r : S3FifoRooms) : Type 0 where
+  some : 1 ≤ r.frames
+  least : 1 ≤ r.hundredths
+  most : r.hundredths ≤ 100 * r.frames
 
-evicts : (m : ℕ) (s : S3FifoState) → m ≤ pages_in s → Evicts s (evicted m s)
-evicts m s full = elim (nat_le m (10 * length s.small)) as (λ b. nat_le m (10 * length s.small) ≡ b → Evicts s (cond b (evicted_small m (length s.small) s) (main_turned s))) [
-  | true ↦ λ h. evicts_small m (length s.small) s (omega arith)
-  | false ↦ λ h. inl (evicts_other m s (above m (10 * length s.small) h) full)
+evicts_other : (r : S3FifoRooms) (s : S3FifoState) → Shared r → 100 * length s.small < r.hundredths → r.frames ≤ pages_in s → Fewer 1 s (main_turned s)
+evicts_other r s shared few full = from_main_one s (main_turned s) (evicts_main (3 * length s.main) s) (let top : r.hundredths ≤ 100 * r.frames = shared.most in omega (arith, few, full, top))
+
+evicts : (r : S3FifoRooms) (s : S3FifoState) → Shared r → r.frames ≤ pages_in s → Evicts s (evicted r s)
+evicts r s shared full = elim (nat_le r.hundredths (100 * length s.small)) as (λ b. nat_le r.hundredths (100 * length s.small) ≡ b → Evicts s (cond b (evicted_small r (length s.small) s) (main_turned s))) [
+  | true ↦ λ h. evicts_small r (length s.small) s (omega arith)
+  | false ↦ λ h. inl (evicts_other r s shared (above r.hundredths (100 * length s.small) h) full)
 ] refl
 
 -- where S is empty a page of M leaves
-evicts_empty : (m : ℕ) (s : S3FifoState) → 1 ≤ m → length s.small ≡ 0 → m ≤ pages_in s → Fewer 1 s (evicted m s)
-evicts_empty m s some empty full = elim (nat_le m (10 * length s.small)) as (λ b. nat_le m (10 * length s.small) ≡ b → Fewer 1 s (cond b (evicted_small m (length s.small) s) (main_turned s))) [
-  | true ↦ λ h. absurd (let e : m ≤ 10 * length s.small = within m (10 * length s.small) h in omega (arith, e, empty, some))
-  | false ↦ λ h. evicts_other m s (above m (10 * length s.small) h) full
+evicts_empty : (r : S3FifoRooms) (s : S3FifoState) → Shared r → length s.small ≡ 0 → r.frames ≤ pages_in s → Fewer 1 s (evicted r s)
+evicts_empty r s shared empty full = elim (nat_le r.hundredths (100 * length s.small)) as (λ b. nat_le r.hundredths (100 * length s.small) ≡ b → Fewer 1 s (cond b (evicted_small r (length s.small) s) (main_turned s))) [
+  | true ↦ λ h. absurd (let e : r.hundredths ≤ 100 * length s.small = within r.hundredths (100 * length s.small) h in let some : 1 ≤ r.hundredths = shared.least in omega (arith, e, empty, some))
+  | false ↦ λ h. evicts_other r s shared (above r.hundredths (100 * length s.small) h) full
 ] refl
   where
     within : (a b : ℕ) → nat_le a b ≡ true → a ≤ b
@@ -183,26 +192,26 @@ record Room (m : ℕ) (s t : S3FifoState) : Type 0 where
   few : pages_in t < m
   fewer : (test : Key → Bool) → count test t ≤ count test s
 
-second_try : (m : ℕ) (s t : S3FifoState) → 1 ≤ m → pages_in s ≤ m → Evicts s t → Room m s (cond (nat_lt (pages_in t) m) t (evicted m t))
-second_try m s t some few (inl f) = elim (nat_lt (pages_in t) m) as (λ b. nat_lt (pages_in t) m ≡ b → Room m s (cond b t (evicted m t))) [
-  | true ↦ λ h. record { few = less (pages_in t) m h; fewer = f.fewer }
-  | false ↦ λ h. absurd (let g : m ≤ pages_in t = most (pages_in t) m h in let k : pages_in t + 1 ≤ pages_in s = f.few in omega (arith, g, k, few))
+second_try : (r : S3FifoRooms) (s t : S3FifoState) → Shared r → pages_in s ≤ r.frames → Evicts s t → Room r.frames s (cond (nat_lt (pages_in t) r.frames) t (evicted r t))
+second_try r s t shared few (inl f) = elim (nat_lt (pages_in t) r.frames) as (λ b. nat_lt (pages_in t) r.frames ≡ b → Room r.frames s (cond b t (evicted r t))) [
+  | true ↦ λ h. record { few = less (pages_in t) r.frames h; fewer = f.fewer }
+  | false ↦ λ h. absurd (let g : r.frames ≤ pages_in t = most (pages_in t) r.frames h in let k : pages_in t + 1 ≤ pages_in s = f.few in omega (arith, g, k, few))
 ] refl
-second_try m s t some few (inr f) = elim (nat_lt (pages_in t) m) as (λ b. nat_lt (pages_in t) m ≡ b → Room m s (cond b t (evicted m t))) [
-  | true ↦ λ h. record { few = less (pages_in t) m h; fewer = f.0.fewer }
+second_try r s t shared few (inr f) = elim (nat_lt (pages_in t) r.frames) as (λ b. nat_lt (pages_in t) r.frames ≡ b → Room r.frames s (cond b t (evicted r t))) [
+  | true ↦ λ h. record { few = less (pages_in t) r.frames h; fewer = f.0.fewer }
   | false ↦ λ h.
-      let g : Fewer 1 t (evicted m t) = evicts_empty m t some f.1 (most (pages_in t) m h) in
-      let x : pages_in (evicted m t) + 1 ≤ pages_in t = g.few in
+      let g : Fewer 1 t (evicted r t) = evicts_empty r t shared f.1 (most (pages_in t) r.frames h) in
+      let x : pages_in (evicted r t) + 1 ≤ pages_in t = g.few in
       let y : pages_in t + 0 ≤ pages_in s = f.0.few in record {
         few = omega (arith, x, y, few);
-        fewer = λ test. let x : count test (evicted m t) ≤ count test t = g.fewer test in let y : count test t ≤ count test s = f.0.fewer test in omega (arith, x, y);
+        fewer = λ test. let x : count test (evicted r t) ≤ count test t = g.fewer test in let y : count test t ≤ count test s = f.0.fewer test in omega (arith, x, y);
       }
 ] refl
 
-room_is : (m : ℕ) (s : S3FifoState) → 1 ≤ m → pages_in s ≤ m → Room m s (room_made m 2 s)
-room_is m s some few = elim (nat_lt (pages_in s) m) as (λ b. nat_lt (pages_in s) m ≡ b → Room m s (cond b s (room_made m 1 (evicted m s)))) [
-  | true ↦ λ h. record { few = less (pages_in s) m h; fewer = λ test. omega arith }
-  | false ↦ λ h. second_try m s (evicted m s) some few (evicts m s (most (pages_in s) m h))
+room_is : (r : S3FifoRooms) (s : S3FifoState) → Shared r → pages_in s ≤ r.frames → Room r.frames s (room_made r 2 s)
+room_is r s shared few = elim (nat_lt (pages_in s) r.frames) as (λ b. nat_lt (pages_in s) r.frames ≡ b → Room r.frames s (cond b s (room_made r 1 (evicted r s)))) [
+  | true ↦ λ h. record { few = less (pages_in s) r.frames h; fewer = λ test. omega arith }
+  | false ↦ λ h. second_try r s (evicted r s) shared few (evicts r s shared (most (pages_in s) r.frames h))
 ] refl
 
 misses_insert : (m : ℕ) (p : Key) (s t : S3FifoState) → false ≡ holds p (pages s) → Room m s t → MayLeave m p (pages s) (pages (inserted p t))
@@ -227,19 +236,28 @@ misses_insert m p s t out r = elim (holds p t.ghosts) as (λ b. MayLeave m p (pa
       let g : count test t ≤ count test s = r.fewer test in omega (arith, e, f, l, g))
 ]
 
-leaves : (m : ℕ) (p : Key) (s : S3FifoState) → 1 ≤ m → pages_in s ≤ m → MayLeave m p (pages s) (pages (s3_fifo m p s))
-leaves m p s some few = elim (in_s3_fifo p s) as (λ b. in_s3_fifo p s ≡ b → MayLeave m p (pages s) (pages (cond b (used p s) (inserted p (room_made m 2 s))))) [
-  | true ↦ λ h. hit_leaves m p (pages s) (pages s) (sym h ∙ found p s) (sym (found p s) ∙ h) (let e : length (pages s) ≡ pages_in s = size s in omega (arith, e, few)) (λ test. omega arith)
-  | false ↦ λ h. misses_insert m p s (room_made m 2 s) (sym h ∙ found p s) (room_is m s some few)
+leaves : (r : S3FifoRooms) (p : Key) (s : S3FifoState) → Shared r → pages_in s ≤ r.frames → MayLeave r.frames p (pages s) (pages (s3_fifo r p s))
+leaves r p s shared few = elim (in_s3_fifo p s) as (λ b. in_s3_fifo p s ≡ b → MayLeave r.frames p (pages s) (pages (cond b (used p s) (inserted p (room_made r 2 s))))) [
+  | true ↦ λ h. hit_leaves r.frames p (pages s) (pages s) (sym h ∙ found p s) (sym (found p s) ∙ h) (let e : length (pages s) ≡ pages_in s = size s in omega (arith, e, few)) (λ test. omega arith)
+  | false ↦ λ h. misses_insert r.frames p s (room_made r 2 s) (sym h ∙ found p s) (room_is r s shared few)
 ] refl
 
-serves : (m : ℕ) → 1 ≤ m → (p : Key) (s : S3FifoState) → pages_in s ≤ m → Serves m pages (λ s. pages_in s ≤ m) in_s3_fifo p s (s3_fifo m p s)
-serves m some p s few = let l : MayLeave m p (pages s) (pages (s3_fifo m p s)) = leaves m p s some few in record {
+serves : (r : S3FifoRooms) → Shared r → (p : Key) (s : S3FifoState) → pages_in s ≤ r.frames → Serves r.frames pages (λ s. pages_in s ≤ r.frames) in_s3_fifo p s (s3_fifo r p s)
+serves r shared p s few = let l : MayLeave r.frames p (pages s) (pages (s3_fifo r p s)) = leaves r p s shared few in record {
   found = found p s;
   leaves = l;
-  lawful_after = let e : length (pages (s3_fifo m p s)) ≡ pages_in (s3_fifo m p s) = size (s3_fifo m p s) in let f : length (pages (s3_fifo m p s)) ≤ m = l.few in omega (arith, e, f);
+  lawful_after = let e : length (pages (s3_fifo r p s)) ≡ pages_in (s3_fifo r p s) = size (s3_fifo r p s) in let f : length (pages (s3_fifo r p s)) ≤ r.frames = l.few in omega (arith, e, f);
 }
 
-pub s3_fifo_played : IsPlayed s3_fifo_misses
+shared_parts : (shares : S3FifoShares) (m : ℕ) → 1 ≤ m → 1 ≤ shares.small → shares.small ≤ 100 → Shared (rooms_of shares m)
+shared_parts shares m some least most = record {
+  some = some;
+  least = let e : m * 1 ≤ m * shares.small = mul-le-mul_left m least in omega (arith, e, some);
+  most = let e : m * shares.small ≤ m * 100 = mul-le-mul_left m most in omega (arith, e);
+}
+
+pub s3_fifo_played : (shares : S3FifoShares) → 1 ≤ shares.small → shares.small ≤ 100 → IsPlayed (s3_fifo_misses shares)
 unfolding s3_fifo_misses
-s3_fifo_played frames string some = served_plays frames pages (λ s. pages_in s ≤ frames) in_s3_fifo (s3_fifo frames) (serves frames some) (record { small = []; main = []; ghosts = []; freq = λ q. 0 }) string (omega arith)
+s3_fifo_played shares least most frames string some =
+    served_plays frames pages (λ s. pages_in s ≤ frames) in_s3_fifo (s3_fifo (rooms_of shares frames)) (serves (rooms_of shares frames) (shared_parts shares frames some least most))
+    (record { small = []; main = []; ghosts = []; freq = λ q. 0 }) string (omega arith)

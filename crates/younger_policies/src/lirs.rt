@@ -1,13 +1,15 @@
 //! LIRS.
 
-ghost use Rattle.std.specs.Prelude.{◌≡◌, ◌+◌, ◌<◌, refl, cond, length, nat_lt, IfOk, OnOk};
+ghost use Rattle.std.specs.Prelude.{◌≡◌, ◌+◌, ◌<◌, refl, cond, length, nat_lt, List, IfOk, OnOk};
+ghost use Rattle.clock_policy.specs.declared.key.Key.{Key};
 ghost use Rattle.page_policies.specs.Strings.{holds, misses as misses_by};
 ghost use Rattle.page_policies.specs.Ordered.{last_of, to_front};
-ghost use Rattle.younger_policies.specs.Lirs.{most_lir, is_bottom_lir, pruned, demoted, made_lir};
+ghost use Rattle.younger_policies.specs.Lirs.{is_bottom_lir, pruned, demoted, made_lir, rooms_of};
 ghost use Rattle.younger_policies.specs.Lirs.{kept_hir, promoted, becomes_lir, placed, room_made};
-ghost use Rattle.younger_policies.specs.Lirs.{lir_used, hir_used, in_lirs, lirs, lirs_misses};
+ghost use Rattle.younger_policies.specs.Lirs.{lir_used, hir_used, in_lirs, lirs, lirs_misses, usual_shares};
 ghost use Rattle.younger_policies.specs.LirsLaws.{lists_of, without_bottom};
 
+use crate::lirs_shares::{LirsRooms, LirsShares};
 use clock_policy::Key;
 use page_policies::{Frames, HitOrMiss, Policy, PolicyRefusal, Queue};
 use std::alloc::{AllocError, Global};
@@ -16,20 +18,13 @@ use std::alloc::{AllocError, Global};
 /// recency tells which is which. It remembers pages that left as long as they are in the stack.
 #[derive(Drop)]
 pub struct Lirs {
-    frames: usize,
+    rooms: LirsRooms,
     /// the LIR pages, in the order of the stack
     lir: Queue,
     /// all pages by their last use, down to the LIR page whose last use is longest ago
     stack: Queue,
     /// the HIR pages in frames
     queue: Queue,
-}
-
-/// How many LIR pages there are at most.
-fn most_lir(frames: usize) -> usize
-    ensures { result ≡ most_lir frames }
-{
-    frames.saturating_sub((frames / 100).max(1))
 }
 
 /// The page comes to the front of the stack, in which it mostly is.
@@ -43,6 +38,24 @@ fn renew(stack: &mut Queue, page: Key) -> Result<(), AllocError>
 }
 
 impl Lirs {
+    /// With its frames empty, divided so.
+    #[tactic(auto, unfolding(crate::specs::Lirs::lirs_misses))]
+    pub fn with_shares(
+        alloc: Global,
+        frames: Frames,
+        shares: LirsShares,
+    ) -> Result<Self, AllocError>
+        ensures { IfOk result (λ policy. (string : List Key) → ⟦<Lirs as Policy>⟧.to_miss policy
+            string ≡ lirs_misses shares frames.number string) }
+    {
+        Ok(Lirs {
+            rooms: shares.rooms(frames),
+            lir: Queue::new(alloc)?,
+            stack: Queue::new(alloc)?,
+            queue: Queue::new(alloc)?,
+        })
+    }
+
     /// Whether the page at the bottom of the stack is an LIR page, if there is one.
     fn is_bottom_lir(&self) -> bool
         ensures { result ≡ is_bottom_lir (last_of self.now.stack) (lists_of self.now) }
@@ -56,7 +69,7 @@ impl Lirs {
     /// The page at the bottom of the stack is forgotten.
     fn drop_bottom(&mut self)
         ensures lists { lists_of self.new ≡ without_bottom (lists_of self.old) }
-        ensures frames { self.new.frames ≡ self.old.frames }
+        ensures rooms { self.new.rooms ≡ self.old.rooms }
     {
         self.stack.pop();
     }
@@ -64,7 +77,7 @@ impl Lirs {
     /// HIR pages at the bottom of the stack are forgotten, so many at most.
     fn prune(&mut self, turns: usize)
         ensures lists { lists_of self.new ≡ pruned turns (lists_of self.old) }
-        ensures frames { self.new.frames ≡ self.old.frames }
+        ensures rooms { self.new.rooms ≡ self.old.rooms }
     {
         for _turn in 0..turns {
             if self.is_bottom_lir() {
@@ -76,11 +89,11 @@ impl Lirs {
 
     /// Where there are too many LIR pages the last one becomes an HIR page.
     fn demote(&mut self) -> Result<(), AllocError>
-        ensures lists { OnOk result (lists_of self.new ≡ demoted self.old.frames (lists_of
+        ensures lists { OnOk result (lists_of self.new ≡ demoted self.old.rooms (lists_of
             self.old)) }
-        ensures frames { self.new.frames ≡ self.old.frames }
+        ensures rooms { self.new.rooms ≡ self.old.rooms }
     {
-        if most_lir(self.frames) < self.lir.len() {
+        if self.rooms.most_lir < self.lir.len() {
             if let Some(page) = self.lir.pop() {
                 self.queue.push(page)?;
             }
@@ -91,7 +104,7 @@ impl Lirs {
     /// The page becomes an LIR page.
     fn make_lir(&mut self, page: Key) -> Result<(), AllocError>
         ensures lists { OnOk result (lists_of self.new ≡ made_lir page (lists_of self.old)) }
-        ensures frames { self.new.frames ≡ self.old.frames }
+        ensures rooms { self.new.rooms ≡ self.old.rooms }
     {
         self.lir.push(page)?;
         self.stack.push(page)?;
@@ -102,7 +115,7 @@ impl Lirs {
     /// The page is an HIR page as before.
     fn keep_hir(&mut self, page: Key) -> Result<(), AllocError>
         ensures lists { OnOk result (lists_of self.new ≡ kept_hir page (lists_of self.old)) }
-        ensures frames { self.new.frames ≡ self.old.frames }
+        ensures rooms { self.new.rooms ≡ self.old.rooms }
     {
         self.stack.push(page)?;
         self.queue.push(page)
@@ -110,9 +123,9 @@ impl Lirs {
 
     /// The page becomes an LIR page, for which another may no more be one.
     fn promote(&mut self, page: Key) -> Result<(), AllocError>
-        ensures lists { OnOk result (lists_of self.new ≡ promoted self.old.frames page (lists_of
+        ensures lists { OnOk result (lists_of self.new ≡ promoted self.old.rooms page (lists_of
             self.old)) }
-        ensures frames { self.new.frames ≡ self.old.frames }
+        ensures rooms { self.new.rooms ≡ self.old.rooms }
     {
         self.make_lir(page)?;
         self.demote()?;
@@ -123,9 +136,9 @@ impl Lirs {
 
     /// Whether the page is to become an LIR page.
     fn becomes_lir(&self, page: Key) -> bool
-        ensures { result ≡ becomes_lir self.now.frames page (lists_of self.now) }
+        ensures { result ≡ becomes_lir self.now.rooms page (lists_of self.now) }
     {
-        if self.lir.len() < most_lir(self.frames) {
+        if self.lir.len() < self.rooms.most_lir {
             return true;
         }
         self.stack.contains(page)
@@ -133,9 +146,9 @@ impl Lirs {
 
     /// A page that is no LIR page is used, and there is room for it.
     fn place(&mut self, page: Key) -> Result<(), AllocError>
-        ensures lists { OnOk result (lists_of self.new ≡ placed self.old.frames page (lists_of
+        ensures lists { OnOk result (lists_of self.new ≡ placed self.old.rooms page (lists_of
             self.old)) }
-        ensures frames { self.new.frames ≡ self.old.frames }
+        ensures rooms { self.new.rooms ≡ self.old.rooms }
     {
         if self.becomes_lir(page) {
             self.promote(page)
@@ -146,10 +159,10 @@ impl Lirs {
 
     /// Room for one page.
     fn make_room(&mut self)
-        ensures lists { lists_of self.new ≡ room_made self.old.frames (lists_of self.old) }
-        ensures frames { self.new.frames ≡ self.old.frames }
+        ensures lists { lists_of self.new ≡ room_made self.old.rooms.frames (lists_of self.old) }
+        ensures rooms { self.new.rooms ≡ self.old.rooms }
     {
-        if self.lir.len() + self.queue.len() < self.frames {
+        if self.lir.len() + self.queue.len() < self.rooms.frames {
             return;
         }
         self.queue.pop();
@@ -160,7 +173,7 @@ impl Lirs {
         ensures found { IfOk result (λ found. found ≡ holds page self.old.lir) }
         ensures lists { OnOk result (lists_of self.new ≡ cond (holds page self.old.lir) (lir_used
             page (lists_of self.old)) (lists_of self.old)) }
-        ensures frames { self.new.frames ≡ self.old.frames }
+        ensures rooms { self.new.rooms ≡ self.old.rooms }
     {
         if !self.lir.touch(page) {
             return Ok(false);
@@ -174,9 +187,9 @@ impl Lirs {
     /// A page is used. Whether it was in a frame.
     fn step(&mut self, page: Key) -> Result<bool, AllocError>
         ensures hit { IfOk result (λ hit. hit ≡ in_lirs page (lists_of self.old)) }
-        ensures lists { OnOk result (lists_of self.new ≡ lirs self.old.frames page (lists_of
+        ensures lists { OnOk result (lists_of self.new ≡ lirs self.old.rooms page (lists_of
             self.old)) }
-        ensures frames { self.new.frames ≡ self.old.frames }
+        ensures rooms { self.new.rooms ≡ self.old.rooms }
     {
         if self.use_lir(page)? {
             return Ok(true);
@@ -192,23 +205,17 @@ impl Lirs {
 }
 
 impl Policy for Lirs {
-    ghost misses = { lirs_misses };
+    ghost misses = { lirs_misses usual_shares };
 
-    ghost to_miss = { λ policy string. misses_by in_lirs (lirs policy.frames) (lists_of policy)
+    ghost to_miss = { λ policy string. misses_by in_lirs (lirs policy.rooms) (lists_of policy)
         string };
 
     ghost refuses = { λ number. ⊥ };
 
     ghost none_to_miss = { λ policy. refl };
 
-    #[tactic(auto, unfolding(crate::specs::Lirs::lirs_misses))]
     fn new(alloc: Global, frames: Frames) -> Result<Self, PolicyRefusal> {
-        Ok(Lirs {
-            frames: frames.number(),
-            lir: Queue::new(alloc)?,
-            stack: Queue::new(alloc)?,
-            queue: Queue::new(alloc)?,
-        })
+        Ok(Lirs::with_shares(alloc, frames, LirsShares::USUAL)?)
     }
 
     fn refer(&mut self, page: Key) -> Result<HitOrMiss, AllocError> {

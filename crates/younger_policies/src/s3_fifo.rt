@@ -1,13 +1,13 @@
 //! S3-FIFO.
 
 ghost use Rattle.std.specs.Prelude.{◌≡◌, ◌+◌, ◌*◌, ◌<◌, refl, cond, true, false, length, min};
-ghost use Rattle.std.specs.Prelude.{nat_lt, IfOk, OnOk};
+ghost use Rattle.std.specs.Prelude.{nat_lt, List, IfOk, OnOk};
 ghost use Rattle.std.specs.HashMap.{get};
 ghost use Rattle.clock_policy.specs.declared.key.Key.{Key};
 ghost use Rattle.page_policies.specs.Strings.{is_page, misses as misses_by};
 ghost use Rattle.page_policies.specs.NextUses.{known};
 ghost use Rattle.page_policies.specs.Ordered.{last_of};
-ghost use Rattle.younger_policies.specs.S3Fifo.{small_frames, main_frames, with_freq, pages_in};
+ghost use Rattle.younger_policies.specs.S3Fifo.{rooms_of, with_freq, pages_in, usual_shares, moved_freq};
 ghost use Rattle.younger_policies.specs.S3Fifo.{tail_freq, main_again, main_out, evicted_main};
 ghost use Rattle.younger_policies.specs.S3Fifo.{main_turned, main_cut, small_up, small_out};
 ghost use Rattle.younger_policies.specs.S3Fifo.{evicted_small, evicted, room_made, came_back, came};
@@ -15,6 +15,7 @@ ghost use Rattle.younger_policies.specs.S3Fifo.{inserted, used, in_s3_fifo, s3_f
 ghost use Rattle.younger_policies.specs.S3Fifo.{s3_fifo_misses};
 ghost use Rattle.younger_policies.specs.S3FifoLaws.{queues_of};
 
+use crate::s3_fifo_shares::{MovedCount, S3FifoRooms, S3FifoShares};
 use clock_policy::Key;
 use page_policies::{Frames, HitOrMiss, Policy, PolicyRefusal, Queue, cut};
 use std::alloc::{AllocError, Global};
@@ -23,7 +24,7 @@ use std::collections::HashMap;
 /// S3-FIFO: a small queue for new pages, a main one for those that are used there more than once, and ghosts of those that were not.
 #[derive(Drop)]
 pub struct S3Fifo {
-    frames: usize,
+    rooms: S3FifoRooms,
     small: Queue,
     main: Queue,
     ghosts: Queue,
@@ -89,14 +90,37 @@ fn forget_unused(freq: &mut HashMap<Key, u8>, page: Key)
     }
 }
 
-/// How many frames the main queue has.
-fn main_frames(frames: usize) -> usize
-    ensures { result ≡ main_frames frames }
+/// A page goes to the main queue, with its count or without.
+fn move_count(freq: &mut HashMap<Key, u8>, moved: MovedCount, page: Key)
+    ensures { (q : Key) → known (get is_page freq.new q) ≡ moved_freq moved page (λ q.
+        known (get is_page freq.old q)) q }
 {
-    frames.saturating_sub((frames / 10).max(1))
+    match moved {
+        MovedCount::Keep => {}
+        MovedCount::Clear => clear_count(freq, page),
+    }
 }
 
 impl S3Fifo {
+    /// With its frames empty, divided so.
+    #[tactic(auto, unfolding(crate::specs::S3Fifo::s3_fifo_misses))]
+    pub fn with_shares(
+        alloc: Global,
+        frames: Frames,
+        shares: S3FifoShares,
+    ) -> Result<Self, AllocError>
+        ensures { IfOk result (λ policy. (string : List Key) → ⟦<S3Fifo as Policy>⟧.to_miss policy
+            string ≡ s3_fifo_misses shares frames.number string) }
+    {
+        Ok(S3Fifo {
+            rooms: shares.rooms(frames),
+            small: Queue::new(alloc)?,
+            main: Queue::new(alloc)?,
+            ghosts: Queue::new(alloc)?,
+            freq: no_counts(alloc),
+        })
+    }
+
     /// Whether the page at the tail of the main queue was used.
     fn is_main_tail_used(&self) -> bool
         ensures { result ≡ nat_lt 0 (tail_freq (last_of self.now.main) (queues_of self.now)) }
@@ -120,7 +144,7 @@ impl S3Fifo {
     /// The page at the tail of the main queue leaves, with its count.
     fn drop_main_tail(&mut self)
         ensures queues { queues_of self.new ≡ main_out (queues_of self.old) }
-        ensures frames { self.new.frames ≡ self.old.frames }
+        ensures rooms { self.new.rooms ≡ self.old.rooms }
     {
         if let Some(page) = self.main.pop() {
             forget_unused(&mut self.freq, page);
@@ -131,7 +155,7 @@ impl S3Fifo {
     fn turn_main(&mut self) -> Result<(), AllocError>
         ensures queues { OnOk result (queues_of self.new ≡ main_again (last_of self.old.main)
             (queues_of self.old)) }
-        ensures frames { self.new.frames ≡ self.old.frames }
+        ensures rooms { self.new.rooms ≡ self.old.rooms }
     {
         let Some(page) = self.main.last() else {
             return Ok(());
@@ -144,7 +168,7 @@ impl S3Fifo {
     /// Used pages go to the main queue's head, so many times at most, and then the page at its tail leaves.
     fn evict_main(&mut self, turns: u128) -> Result<(), AllocError>
         ensures queues { OnOk result (queues_of self.new ≡ evicted_main turns (queues_of self.old)) }
-        ensures frames { self.new.frames ≡ self.old.frames }
+        ensures rooms { self.new.rooms ≡ self.old.rooms }
     {
         for _turn in 0..turns {
             if !self.is_main_tail_used() {
@@ -160,7 +184,7 @@ impl S3Fifo {
     /// A page leaves the main queue.
     fn take_main(&mut self) -> Result<(), AllocError>
         ensures queues { OnOk result (queues_of self.new ≡ main_turned (queues_of self.old)) }
-        ensures frames { self.new.frames ≡ self.old.frames }
+        ensures rooms { self.new.rooms ≡ self.old.rooms }
     {
         let len = self.main.len();
         self.evict_main(3 * len as u128)
@@ -168,11 +192,11 @@ impl S3Fifo {
 
     /// A page leaves the main queue where it has too many.
     fn cut_main(&mut self) -> Result<(), AllocError>
-        ensures queues { OnOk result (queues_of self.new ≡ main_cut self.old.frames (queues_of
+        ensures queues { OnOk result (queues_of self.new ≡ main_cut self.old.rooms (queues_of
             self.old)) }
-        ensures frames { self.new.frames ≡ self.old.frames }
+        ensures rooms { self.new.rooms ≡ self.old.rooms }
     {
-        if main_frames(self.frames) < self.main.len() {
+        if self.rooms.main < self.main.len() {
             self.take_main()
         } else {
             Ok(())
@@ -181,38 +205,39 @@ impl S3Fifo {
 
     /// The page at the tail of the small queue goes to the main one.
     fn move_up(&mut self) -> Result<(), AllocError>
-        ensures queues { OnOk result (queues_of self.new ≡ small_up self.old.frames (last_of
+        ensures queues { OnOk result (queues_of self.new ≡ small_up self.old.rooms (last_of
             self.old.small) (queues_of self.old)) }
-        ensures frames { self.new.frames ≡ self.old.frames }
+        ensures rooms { self.new.rooms ≡ self.old.rooms }
     {
         let Some(page) = self.small.pop() else {
             return Ok(());
         };
         self.main.push(page)?;
+        move_count(&mut self.freq, self.rooms.moved, page);
         self.cut_main()?;
         Ok(())
     }
 
     /// The page at the tail of the small queue leaves, and is remembered.
     fn move_out(&mut self) -> Result<(), AllocError>
-        ensures queues { OnOk result (queues_of self.new ≡ small_out self.old.frames (last_of
+        ensures queues { OnOk result (queues_of self.new ≡ small_out self.old.rooms (last_of
             self.old.small) (queues_of self.old)) }
-        ensures frames { self.new.frames ≡ self.old.frames }
+        ensures rooms { self.new.rooms ≡ self.old.rooms }
     {
         let Some(page) = self.small.pop() else {
             return Ok(());
         };
         self.ghosts.push(page)?;
-        cut(&mut self.ghosts, main_frames(self.frames));
+        cut(&mut self.ghosts, self.rooms.ghosts);
         clear_count(&mut self.freq, page);
         Ok(())
     }
 
     /// Pages that were used more than once go to the main queue, so many at most, until one was not, which leaves.
     fn evict_small(&mut self, turns: usize) -> Result<(), AllocError>
-        ensures queues { OnOk result (queues_of self.new ≡ evicted_small self.old.frames turns
+        ensures queues { OnOk result (queues_of self.new ≡ evicted_small self.old.rooms turns
             (queues_of self.old)) }
-        ensures frames { self.new.frames ≡ self.old.frames }
+        ensures rooms { self.new.rooms ≡ self.old.rooms }
     {
         for _turn in 0..turns {
             if !self.is_small_tail_busy() {
@@ -225,12 +250,12 @@ impl S3Fifo {
 
     /// A page leaves one of the two queues, or all of the small one's go to the main one.
     fn evict(&mut self) -> Result<(), AllocError>
-        ensures queues { OnOk result (queues_of self.new ≡ evicted self.old.frames (queues_of
+        ensures queues { OnOk result (queues_of self.new ≡ evicted self.old.rooms (queues_of
             self.old)) }
-        ensures frames { self.new.frames ≡ self.old.frames }
+        ensures rooms { self.new.rooms ≡ self.old.rooms }
     {
         let len = self.small.len();
-        if self.frames as u128 <= 10 * len as u128 {
+        if self.rooms.hundredths as u128 <= 100 * len as u128 {
             self.evict_small(len)
         } else {
             self.take_main()
@@ -239,15 +264,15 @@ impl S3Fifo {
 
     /// Room for one page.
     fn make_room(&mut self) -> Result<(), AllocError>
-        ensures queues { OnOk result (queues_of self.new ≡ room_made self.old.frames 2 (queues_of
+        ensures queues { OnOk result (queues_of self.new ≡ room_made self.old.rooms 2 (queues_of
             self.old)) }
-        ensures frames { self.new.frames ≡ self.old.frames }
+        ensures rooms { self.new.rooms ≡ self.old.rooms }
     {
-        if self.small.len() + self.main.len() < self.frames {
+        if self.small.len() + self.main.len() < self.rooms.frames {
             return Ok(());
         }
         self.evict()?;
-        if self.small.len() + self.main.len() < self.frames {
+        if self.small.len() + self.main.len() < self.rooms.frames {
             return Ok(());
         }
         self.evict()
@@ -256,7 +281,7 @@ impl S3Fifo {
     /// A page comes in.
     fn insert(&mut self, page: Key) -> Result<(), AllocError>
         ensures queues { OnOk result (queues_of self.new ≡ inserted page (queues_of self.old)) }
-        ensures frames { self.new.frames ≡ self.old.frames }
+        ensures rooms { self.new.rooms ≡ self.old.rooms }
     {
         clear_count(&mut self.freq, page);
         if self.ghosts.contains(page) {
@@ -270,7 +295,7 @@ impl S3Fifo {
     /// A page that is there was used.
     fn note_use(&mut self, page: Key) -> Result<(), AllocError>
         ensures queues { OnOk result (queues_of self.new ≡ used page (queues_of self.old)) }
-        ensures frames { self.new.frames ≡ self.old.frames }
+        ensures rooms { self.new.rooms ≡ self.old.rooms }
     {
         raise_count(&mut self.freq, page)
     }
@@ -288,9 +313,9 @@ impl S3Fifo {
     /// A page is used. Whether it was in a frame.
     fn step(&mut self, page: Key) -> Result<bool, AllocError>
         ensures hit { IfOk result (λ hit. hit ≡ in_s3_fifo page (queues_of self.old)) }
-        ensures queues { OnOk result (queues_of self.new ≡ s3_fifo self.old.frames page (queues_of
+        ensures queues { OnOk result (queues_of self.new ≡ s3_fifo self.old.rooms page (queues_of
             self.old)) }
-        ensures frames { self.new.frames ≡ self.old.frames }
+        ensures rooms { self.new.rooms ≡ self.old.rooms }
     {
         if !self.is_there(page) {
             self.make_room()?;
@@ -303,24 +328,17 @@ impl S3Fifo {
 }
 
 impl Policy for S3Fifo {
-    ghost misses = { s3_fifo_misses };
+    ghost misses = { s3_fifo_misses usual_shares };
 
-    ghost to_miss = { λ policy string. misses_by in_s3_fifo (s3_fifo policy.frames)
+    ghost to_miss = { λ policy string. misses_by in_s3_fifo (s3_fifo policy.rooms)
         (queues_of policy) string };
 
     ghost refuses = { λ number. ⊥ };
 
     ghost none_to_miss = { λ policy. refl };
 
-    #[tactic(auto, unfolding(crate::specs::S3Fifo::s3_fifo_misses))]
     fn new(alloc: Global, frames: Frames) -> Result<Self, PolicyRefusal> {
-        Ok(S3Fifo {
-            frames: frames.number(),
-            small: Queue::new(alloc)?,
-            main: Queue::new(alloc)?,
-            ghosts: Queue::new(alloc)?,
-            freq: no_counts(alloc),
-        })
+        Ok(S3Fifo::with_shares(alloc, frames, S3FifoShares::USUAL)?)
     }
 
     fn refer(&mut self, page: Key) -> Result<HitOrMiss, AllocError> {

@@ -9,4 +9,4 @@ pub returns : goal.returns
 unfolding IsRow
 returns c =
     subst (λ (ps : List PolicyName). IfOk c.counts_by.result (IsCounted (λ misses. misses c.args.string.now) ps (length c.args.string.now) (asked c.args.wanted.now.optimum (optimal_misses c.args.frames.number c.args.string.now)) c.args.frames)) c.as_slice.ensures.value
-    (subst (λ (o : Option ℕ). IfOk c.counts_by.result (IsCounted (λ misses. misses c.args.string.now) c.as_slice.result.now (length c.args.string.now) o c.args.frames)) c.requires.optimum c.counts_by.ensures)
+    (subst (λ (o : Option ℕ). IfOk c.counts_by.result (IsCounted (λ misses. misses c.args.string.now) c.as_slice.result.now (length c.args.string.now) o c.args.frames)) c.requires c.counts_by.ensures)

@@ -1,6 +1,7 @@
 use Rattle.std.proofs.Common.{◌≡◌, ◌∙◌, Bool, true, false, ap, arith, subst, sym}
 use Rattle.trace_files.proofs.LinesTold.{line_breaks, line_passed, lines_over, same_kind}
-use Rattle.trace_files.specs.References.{pieces_of, said}
+use Rattle.trace_lines.specs.Lines.{said}
+use Rattle.trace_files.specs.References.{pieces_of}
 use Rattle.trace_files.specs.ReferenceAnswers.{TakesPiece}
 use Rattle.trace_files.proofs.pieces.Pieces.next_line.Goals as goal
 

@@ -6,5 +6,5 @@ pub loop-turn-preserved : goal.loop-turn-preserved
 loop-turn-preserved c = record {
   lists = pruned_more c.args.turns c.loop-turn._turn (lists_of c.loop-turn.self) (lists_of c.drop_bottom.new.self) c.loop-turn-test.true (sym c.if-is_bottom_lir.false ∙ c.is_bottom_lir.ensures) c.drop_bottom.ensures.lists
       ∙ c.loop-turn.invariant.lists;
-  frames = c.drop_bottom.ensures.frames ∙ c.loop-turn.invariant.frames;
+  rooms = c.drop_bottom.ensures.rooms ∙ c.loop-turn.invariant.rooms;
 }

@@ -6,5 +6,5 @@ pub loop-turn-preserved : goal.loop-turn-preserved
 loop-turn-preserved c = record {
   queues = main_more c.args.turns c.loop-turn._turn (queues_of c.loop-turn.self) (queues_of c.turn_main.new.self) c.loop-turn-test.true c.if-not-is_main_tail_used.ensures c.in_ok-turn_main.ensures.queues
       ∙ c.loop-turn.invariant.queues;
-  frames = c.turn_main.ensures.frames ∙ c.loop-turn.invariant.frames;
+  rooms = c.turn_main.ensures.rooms ∙ c.loop-turn.invariant.rooms;
 }

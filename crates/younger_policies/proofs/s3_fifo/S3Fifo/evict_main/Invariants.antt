@@ -6,5 +6,5 @@ use Rattle.younger_policies.proofs.s3_fifo.S3Fifo.evict_main.Given as goal
 abbrev pub invariant-loop-turn : goal.invariant-loop-turn
 invariant-loop-turn l = record {
   queues : evicted_main (l.turns - l._turn) (queues_of l.self) ≡ evicted_main l.turns (queues_of l.initial.self);
-  frames : l.self.frames ≡ l.initial.self.frames;
+  rooms : l.self.rooms ≡ l.initial.self.rooms;
 }

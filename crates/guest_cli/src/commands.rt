@@ -48,6 +48,7 @@ fn profile<'a>(alloc: Global) -> Result<Command<'a>, AllocError> {
 fn debug<'a>(alloc: Global) -> Result<Command<'a>, AllocError> {
     let command = Ok(Command::new(alloc, "debug"));
     let command = with_arg(command, option(alloc, "frames"));
+    let command = with_arg(command, option(alloc, "replay"));
     image(alloc, with_arg(command, option(alloc, "input")))
 }
 

@@ -102,6 +102,7 @@ fn debug_request<'a>(matches: &ArgMatches<'a>) -> Result<DebugRequest<'a>, BadNu
     Ok(DebugRequest {
         frames: frames(matches)?,
         input: matches.get_str("input"),
+        record: matches.get_str("replay"),
         image: image(matches),
     })
 }

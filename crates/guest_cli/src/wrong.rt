@@ -17,6 +17,12 @@ pub(crate) enum Wrong<'a> {
     Words(String),
     #[error("bad usage: {0}")]
     Number(BadNumber<'a>),
+    /// Of a record and frames: only a run on flat memory is one by a record.
+    #[error("bad usage: --replay is not for --frames")]
+    RecordOnFrames,
+    /// This image did not run again as it ran before.
+    #[error("{0}: the run is another one this time")]
+    OtherRun(&'a str),
 }
 
 /// A word that is no number of those that an option may have.

@@ -1,2 +1,5 @@
 pub mod Along
 pub mod Parts
+pub mod Extending
+pub mod Standing
+pub mod Filled

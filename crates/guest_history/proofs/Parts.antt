@@ -5,7 +5,7 @@ use Rattle.flat_machine.specs.declared.schedule.Turn.{Turn}
 use Rattle.guest_history.specs.declared.path.Whose.{Whose}
 use Rattle.guest_history.specs.declared.path.Stretch.{Stretch}
 use Rattle.guest_history.specs.Paths.{whose_at, steps_of, taken_of, part_of, stretch_of, path_of}
-use Rattle.guest_history.proofs.Along.{whose_here, whose_past}
+use Rattle.guest_history.proofs.Along.{whose_here, whose_past, steps_more}
 
 from_place : {T : Type 0} (xs : List T) (n : ℕ) (x : T) → n < length xs → x ≡ slice_index_or xs n x → drop n xs ≡ x ∷ drop (suc n) xs
 from_place [] n x within is = absurd (omega (arith, within))
@@ -60,10 +60,10 @@ unfolding steps_of
 steps_taken stretch zero rest = omega arith
 steps_taken stretch (suc m) rest = refl
 
-is_less : (a b : ℕ) → nat_lt a b ≡ true → a < b
+pub is_less : (a b : ℕ) → nat_lt a b ≡ true → a < b
 is_less a b h = grind arith
 
-is_most : (a b : ℕ) → nat_lt a b ≡ false → b ≤ a
+pub is_most : (a b : ℕ) → nat_lt a b ≡ false → b ≤ a
 is_most a b h = grind arith
 
 pub whose_part : (path : List Stretch) (before count i : ℕ) → i < count → whose_at (part_of path before count) i ≡ whose_at path (before + i)
@@ -112,3 +112,9 @@ whose_more path n before left fewer stretch within is e h less =
 pub whose_none : (path : List Stretch) (n before left : ℕ) → length path ≤ n → whose_at (drop n path) left ≡ whose_at path before → whose_at path before ≡ None
 unfolding whose_at
 whose_none path n before left all e = sym e ∙ ap (λ (l : List Stretch). whose_at l left) (drop_all n path all)
+
+pub count_more : (path : List Stretch) (n count more : ℕ) (stretch : Stretch) → n < length path → stretch ≡ slice_index_or path n stretch → count ≡ steps_of (take n path) → more ≡ count + stretch.count → more ≡ steps_of (take (n + 1) path)
+count_more path n count more stretch within is e sum = sum ∙ ap (λ k. k + stretch.count) e ∙ sym (steps_more path n stretch within is)
+
+pub count_all : (path : List Stretch) (n count : ℕ) → length path ≤ n → count ≡ steps_of (take n path) → count ≡ steps_of path
+count_all path n count all e = e ∙ ap steps_of (take_all n path all)

@@ -1,1 +1,4 @@
 pub mod Paths
+pub mod Extending
+pub mod Histories
+pub mod Filling

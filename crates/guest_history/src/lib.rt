@@ -2,9 +2,13 @@
 #![tactic(auto)]
 
 mod fault;
+mod history;
 mod path;
+mod points;
 mod program;
 mod running;
+mod waiting;
 
 pub use fault::HistoryFault;
+pub use history::History;
 pub use program::Program;

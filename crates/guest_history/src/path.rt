@@ -1,8 +1,9 @@
 //! Whose steps a run was made of, in order.
 
-ghost use Rattle.std.specs.Prelude.{◌≡◌, ◌++◌, IfOk, OnOk};
+ghost use Rattle.std.specs.Prelude.{◌≡◌, ◌++◌, ◌+◌, ◌≤◌, ◌<◌, ◌^◌, true, IfOk, IfSome, OnOk, length};
+ghost use Rattle.guest_history.specs.Extending.{Extends, GoesOn, IsCounted, Lengthens};
 ghost use Rattle.guest_history.specs.declared.path.Whose.TheVariants as whose;
-ghost use Rattle.guest_history.specs.Paths.{hart_of, part_of, path_of, taken_of, whose_at};
+ghost use Rattle.guest_history.specs.Paths.{hart_of, part_of, path_of, steps_of, taken_of, whose_at};
 
 use flat_machine::Turn;
 use std::alloc::{AllocError, Global};
@@ -21,6 +22,13 @@ pub enum Whose {
 pub struct Stretch {
     pub whose: Whose,
     pub count: u64,
+}
+
+/// The steps of a run, in order, and how many they are.
+#[derive(Debug, Drop)]
+pub struct Path {
+    pub stretches: Vec<Stretch>,
+    pub total: u64,
 }
 
 /// The hart of a step, where it is a hart's turn.
@@ -53,6 +61,25 @@ fn stretch_of(turn: Turn) -> Stretch
         whose: Whose::Hart(turn.hart),
         count: u64::from(turn.count),
     }
+}
+
+/// How many steps a path has, if that is a number that is counted here.
+#[tactic(auto, using(crate::proofs::Parts::count_more, crate::proofs::Parts::count_all))]
+pub(crate) fn count_of(path: &[Stretch]) -> Option<u64>
+    ensures { IfSome result (λ count. count ≡ steps_of path.now) }
+{
+    let mut count: u64 = 0;
+    'stretches: for stretch in path {
+        count = sum_of(count, stretch.count)?;
+    }
+    Some(count)
+}
+
+/// The sum, if it is counted here.
+fn sum_of(one: u64, other: u64) -> Option<u64>
+    ensures { IfSome result (λ sum. sum ≡ one + other) }
+{
+    one.checked_add(other)
 }
 
 /// So many steps of a path, behind so many others.
@@ -105,4 +132,83 @@ pub(crate) fn whose_at(path: &[Stretch], before: u64) -> Option<Whose>
         left -= stretch.count;
     }
     None
+}
+
+/// Whether both are by turns.
+fn are_by_turns(one: Whose, other: Whose) -> bool
+    ensures { result ≡ true → other ≡ one }
+{
+    match one {
+        Whose::ByTurns => match other {
+            Whose::ByTurns => true,
+            Whose::Hart(_) => false,
+        },
+        Whose::Hart(_) => false,
+    }
+}
+
+impl Path {
+    /// Adds so many steps behind so many others. Where other steps stood there, all behind them are forgotten. Answers whether none was.
+    #[tactic(auto, using(crate::proofs::Extending::extends_less))]
+    pub(crate) fn extend(
+        &mut self,
+        alloc: Global,
+        done: u64,
+        whose: Whose,
+        count: u64,
+    ) -> Result<bool, AllocError>
+        requires counted { IsCounted self.old }
+        requires within { done ≤ self.old.total }
+        requires small { done + count < 2 ^ 64 }
+        ensures extended { IfOk result (λ is_kept. Extends self.old done whose count is_kept
+            self.new) }
+    {
+        let end = done + count;
+        if self.goes_on(done, whose) {
+            self.lengthen(end);
+            return Ok(true);
+        }
+        let stretch = Stretch { whose, count };
+        if done == self.total {
+            push_some(&mut self.stretches, stretch, count)?;
+            self.total = end;
+            return Ok(true);
+        }
+        let mut stretches = part_of(alloc, self.stretches.as_slice(), 0, done)?;
+        push_some(&mut stretches, stretch, count)?;
+        self.stretches = stretches;
+        self.total = end;
+        Ok(false)
+    }
+
+    /// Whether these are steps by turns, and the last stretch is one by turns that begins behind no more steps.
+    fn goes_on(&self, done: u64, whose: Whose) -> bool
+        requires counted { IsCounted self.now }
+        requires within { done ≤ self.now.total }
+        ensures { result ≡ true → GoesOn self.now.stretches.items done whose }
+    {
+        let places = self.stretches.len();
+        if places == 0 {
+            return false;
+        }
+        let last = self.stretches[places - 1];
+        if !are_by_turns(whose, last.whose) {
+            return false;
+        }
+        self.total.saturating_sub(last.count) <= done
+    }
+
+    /// Makes the last stretch so much longer that the path ends behind so many steps, if that is longer.
+    fn lengthen(&mut self, end: u64)
+        requires counted { IsCounted self.old }
+        requires some { 0 < length self.old.stretches.items }
+        ensures { Lengthens self.old end self.new }
+    {
+        if end <= self.total {
+            return;
+        }
+        let last = self.stretches.len() - 1;
+        self.stretches[last].count += end - self.total;
+        self.total = end;
+    }
 }

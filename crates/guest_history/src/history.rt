@@ -1,0 +1,199 @@
+//! A debugger that knows its steps.
+
+ghost use Rattle.std.specs.Prelude.{◌≡◌, ◌≤◌, ◌<◌, ◌-◌, ◌+◌, ◌^◌, [], Some, None, true, false, replicate, IfOk, IfSome, OnOk};
+ghost use Rattle.guest_history.specs.Extending.{IsCounted};
+ghost use Rattle.guest_history.specs.Paths.{along, hart_of, path_of, step_of, HasTurn};
+ghost use Rattle.guest_history.specs.Histories.{beginning, place_of, Begins, IsNear, Keeps, Moves};
+ghost use Rattle.guest_history.specs.Histories.{GoesBackTo, Stands};
+
+use crate::fault::HistoryFault;
+use crate::path::{Path, Whose, count_of, hart_of, part_of, path_of, whose_at};
+use crate::points::{Points, give_points};
+use crate::program::Program;
+use crate::running::Place;
+use crate::waiting::Waiting;
+use debug_core::{DebugStep, Debugger, MOST_POINTS};
+use flat_machine::{FlatProcess, Turn};
+use std::alloc::Global;
+
+/// A debugger of a program that knows its steps, so that it can go back.
+#[derive(Drop)]
+pub struct History {
+    pub program: Program,
+    /// All steps that are known.
+    pub path: Path,
+    /// Whether no other steps may be taken.
+    pub is_recorded: bool,
+    /// How many were taken.
+    pub done: u64,
+    /// Those of the debugger.
+    pub points: Points,
+    pub debugger: Debugger<FlatProcess>,
+    pub waiting: Option<Waiting>,
+}
+
+impl History {
+    /// A debugger of a program whose harts take turns.
+    pub fn new(alloc: Global, program: Program) -> Result<Self, HistoryFault>
+        ensures { IfOk result (Begins program [] false) }
+    {
+        let path = Path {
+            stretches: Vec::new(alloc),
+            total: 0,
+        };
+        History::begin(alloc, program, path, false)
+    }
+
+    /// A debugger of a program whose harts take these turns.
+    pub fn recorded(alloc: Global, program: Program, turns: &[Turn]) -> Result<Self, HistoryFault>
+        ensures { IfOk result (Begins program (path_of turns.now) true) }
+    {
+        let stretches = path_of(alloc, turns)?;
+        let Some(total) = count_of(stretches.as_slice()) else {
+            return Err(HistoryFault::OtherRun);
+        };
+        History::begin(alloc, program, Path { stretches, total }, true)
+    }
+
+    /// A debugger of a program before its first step.
+    fn begin(
+        alloc: Global,
+        program: Program,
+        path: Path,
+        is_recorded: bool,
+    ) -> Result<Self, HistoryFault>
+        requires counted { IsCounted path }
+        ensures { IfOk result (Begins program path.stretches.items is_recorded) }
+    {
+        let debugger = Debugger::new(program.begin(alloc)?);
+        Ok(History {
+            program,
+            path,
+            is_recorded,
+            done: 0,
+            points: [None; MOST_POINTS],
+            debugger,
+            waiting: None,
+        })
+    }
+
+    /// Goes so many steps back, or to the beginning.
+    pub fn back(&mut self, alloc: Global, count: u64) -> Result<(), HistoryFault>
+        requires stands { Stands self.old }
+        ensures back { OnOk result (GoesBackTo (self.old.done - count) self.old self.new) }
+    {
+        self.stand_at(alloc, self.done.saturating_sub(count))
+    }
+
+    /// Stands behind so many of the known steps.
+    pub(crate) fn stand_at(&mut self, alloc: Global, step: u64) -> Result<(), HistoryFault>
+        requires stands { Stands self.old }
+        requires known { step ≤ self.old.path.total }
+        ensures { OnOk result (GoesBackTo step self.old self.new) }
+    {
+        let mut debugger = self.debugger_at(alloc, step)?;
+        give_points(&mut debugger, &self.points)?;
+        self.debugger = debugger;
+        self.done = step;
+        Ok(())
+    }
+
+    /// A debugger with no points behind so many of the known steps.
+    fn debugger_at(&mut self, alloc: Global, step: u64) -> Result<Debugger<FlatProcess>, HistoryFault>
+        requires stands { Stands self.old }
+        requires known { step ≤ self.old.path.total }
+        ensures keeps { Keeps self.old self.new }
+        ensures stands { Stands self.new }
+        ensures led { IfOk result (λ debugger. along self.old.path.stretches.items step
+            (beginning self.old.program) ≡ Some (place_of debugger)) }
+        ensures points { IfOk result (λ debugger. debugger.points ≡ replicate 32 None) }
+    {
+        if step == 0 {
+            return Ok(Debugger::new(self.program.begin(alloc)?));
+        }
+        let place = self.place_at(alloc, step - 1)?;
+        let Some(whose) = whose_at(self.path.stretches.as_slice(), step - 1) else {
+            return Err(HistoryFault::OtherRun);
+        };
+        let debugger = debugger_behind(place, whose)?;
+        Ok(debugger)
+    }
+
+    /// The process behind so many of the known steps.
+    pub(crate) fn place_at(&mut self, alloc: Global, step: u64) -> Result<Place, HistoryFault>
+        requires stands { Stands self.old }
+        requires known { step ≤ self.old.path.total }
+        ensures keeps { Keeps self.old self.new }
+        ensures stands { Stands self.new }
+        ensures led { IfOk result (λ place. along self.old.path.stretches.items step
+            (beginning self.old.program) ≡ Some place) }
+        ensures live { IfOk result (λ place. HasTurn place) }
+    {
+        let near = self.near(alloc, step)?;
+        let path = self.path.stretches.as_slice();
+        let part = part_of(alloc, path, near.done, step - near.done)?;
+        let mut place = near.place;
+        place.go_along(alloc, part.as_slice())?;
+        Ok(place)
+    }
+
+    /// The process that waits, where it is behind no more steps, else that at the beginning.
+    fn near(&mut self, alloc: Global, step: u64) -> Result<Waiting, HistoryFault>
+        requires stands { Stands self.old }
+        ensures keeps { Keeps self.old self.new }
+        ensures stands { Stands self.new }
+        ensures near { IfOk result (λ near. IsNear self.old step near) }
+    {
+        if let Some(waiting) = self.waiting.take() {
+            if waiting.done <= step {
+                return Ok(waiting);
+            }
+        }
+        Ok(Waiting {
+            place: Place::first(self.program.begin(alloc)?),
+            done: 0,
+        })
+    }
+
+    /// Notes that so many steps were taken: the debugger stands behind them.
+    pub(crate) fn note(
+        &mut self,
+        alloc: Global,
+        whose: Whose,
+        count: u64,
+    ) -> Result<(), HistoryFault>
+        requires moved { Moves self.old whose count }
+        requires small { self.old.done + count < 2 ^ 64 }
+        ensures stands { OnOk result (Stands self.new) }
+        ensures done { OnOk result (self.new.done ≡ self.old.done + count) }
+        ensures shown { self.new.debugger ≡ self.old.debugger }
+        ensures points { self.new.points ≡ self.old.points }
+        ensures program { self.new.program ≡ self.old.program }
+    {
+        let is_kept = self.path.extend(alloc, self.done, whose, count)?;
+        self.waiting = where_kept(is_kept, self.waiting.take());
+        self.done += count;
+        Ok(())
+    }
+}
+
+/// The process that waits, where no known step was forgotten.
+fn where_kept(is_kept: bool, waiting: Option<Waiting>) -> Option<Waiting>
+    ensures { IfSome result (λ kept. (is_kept ≡ true) × (waiting ≡ Some kept)) }
+{
+    if is_kept { waiting } else { None }
+}
+
+/// The debugger of a process after the next step.
+fn debugger_behind(place: Place, whose: Whose) -> Result<Debugger<FlatProcess>, HistoryFault>
+    ensures led { IfOk result (λ debugger. step_of (hart_of whose place.turn) place ≡
+        Some (place_of debugger)) }
+    ensures points { IfOk result (λ debugger. debugger.points ≡ replicate 32 None) }
+{
+    let hart = hart_of(whose, place.turn);
+    let mut debugger = Debugger::new(place.process);
+    match debugger.step(hart) {
+        Ok(DebugStep::Ran) => Ok(debugger),
+        _ => Err(HistoryFault::OtherRun),
+    }
+}

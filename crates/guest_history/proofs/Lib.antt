@@ -3,3 +3,5 @@ pub mod Parts
 pub mod Extending
 pub mod Standing
 pub mod Filled
+pub mod MovesOn
+pub mod GoneOn

@@ -1,15 +1,18 @@
 -- A debugger that knows its steps: where it stands, and where it goes back to.
-use Rattle.std.specs.Prelude.{◌≡◌, ℕ, ◌+◌, ◌≤◌, Bool, List, [], ◌∷◌, Some, IfSome}
+use Rattle.std.specs.Prelude.{◌≡◌, ℕ, ◌+◌, ◌<◌, ◌≤◌, Bool, List, [], ◌∷◌, Some, IfSome}
 use Rattle.flat_machine.specs.Process.{Process, opening}
 use Rattle.debug_core.specs.Debugging.{DebuggerValue}
+use Rattle.debug_session.specs.declared.lines.DebugLine.{DebugLine}
+use Rattle.debug_session.specs.declared.lines.DebugLine.TheVariants.{Break, Watch, Remove, Step, Go, Regs, Mem, Run, GoHart, End, Live, Quit}
 use Rattle.guest_history.specs.declared.path.Stretch.{Stretch}
 use Rattle.guest_history.specs.declared.path.Whose.{Whose}
+use Rattle.guest_history.specs.declared.path.Path.{Path}
 use Rattle.guest_history.specs.declared.running.Place.{Place}
 use Rattle.guest_history.specs.declared.program.Program.{Program}
 use Rattle.guest_history.specs.declared.waiting.Waiting.{Waiting}
 use Rattle.guest_history.specs.declared.history.History.{History}
 use Rattle.guest_history.specs.Extending.{IsCounted}
-use Rattle.guest_history.specs.Paths.{along, first_place, HasTurn}
+use Rattle.guest_history.specs.Paths.{along, first_place, whose_at, HasTurn}
 
 -- where a program begins
 abbrev pub beginning : Program → Place
@@ -69,3 +72,23 @@ pub record Moves (history : History) (whose : Whose) (count : ℕ) : Type 0 wher
   pub moved : along (record { whose = whose; count = count } ∷ []) count at ≡ Some (place_of history.debugger)
   pub points : history.debugger.points ≡ history.points
   pub waits : IfSome history.waiting (IsWaiting history.program history.path.stretches.items history.path.total)
+
+-- the next steps of a path are those of a stretch
+pub record IsNext (path : Path) (done : ℕ) (stretch : Stretch) : Type 0 where
+  pub within : done + stretch.count ≤ path.total
+  pub next : (i : ℕ) → i < stretch.count → whose_at path.stretches.items (done + i) ≡ Some stretch.whose
+
+-- a line that only shows something, or ends the conversation
+abbrev pub Looks : DebugLine → Type 0
+Looks (Regs hart) = Unit {0}
+Looks (Mem address length) = Unit {0}
+Looks End = Unit {0}
+Looks (Live hart) = Unit {0}
+Looks Quit = Unit {0}
+Looks (Break address) = ⊥
+Looks (Watch address length) = ⊥
+Looks (Remove number) = ⊥
+Looks (Step hart) = ⊥
+Looks (Go limit) = ⊥
+Looks (Run limit) = ⊥
+Looks (GoHart hart limit) = ⊥

@@ -11,10 +11,14 @@ use crate::path::{Path, Whose, count_of, hart_of, part_of, path_of, whose_at};
 use crate::points::{Points, give_points};
 use crate::program::Program;
 use crate::running::Place;
+use crate::searching::{Met, last_met};
 use crate::waiting::Waiting;
-use debug_core::{DebugStep, Debugger, MOST_POINTS};
+use debug_core::{DebugStep, Debugger, MOST_POINTS, Why};
 use flat_machine::{FlatProcess, Turn};
 use std::alloc::Global;
+
+/// How many steps `back_go` looks at first.
+const FIRST_LOOK: u64 = 1 << 20;
 
 /// A debugger of a program that knows its steps, so that it can go back.
 #[derive(Drop)]
@@ -83,6 +87,64 @@ impl History {
         ensures back { OnOk result (GoesBackTo (self.old.done - count) self.old self.new) }
     {
         self.stand_at(alloc, self.done.saturating_sub(count))
+    }
+
+    /// Goes back to the last place where a point would have stopped it, or to the beginning. Reports what was met.
+    pub fn back_go(&mut self, alloc: Global) -> Result<Option<Why>, HistoryFault>
+        requires stands { Stands self.old }
+        ensures back { OnOk result (GoesBackTo self.new.done self.old self.new) }
+    {
+        match self.last_met(alloc)? {
+            Some(met) => {
+                self.stand_at(alloc, met.steps)?;
+                Ok(Some(met.why))
+            }
+            None => {
+                self.stand_at(alloc, 0)?;
+                Ok(None)
+            }
+        }
+    }
+
+    /// The last place before this one where a point would have stopped it, but for the beginning.
+    fn last_met(&mut self, alloc: Global) -> Result<Option<Met>, HistoryFault>
+        requires stands { Stands self.old }
+        ensures stands { Stands self.new }
+        ensures keeps { Keeps self.old self.new }
+        ensures within { IfOk result (λ met. IfSome met (λ found. found.steps ≤ self.old.done)) }
+    {
+        let mut end = self.done;
+        let mut width = FIRST_LOOK;
+        'looks: while end > 1 {
+            let from = end - width.min(end - 1) - 1;
+            let met = self.last_met_between(alloc, from, end)?;
+            if met.is_some() {
+                return Ok(met);
+            }
+            end = from + 1;
+            width = width.saturating_mul(16);
+        }
+        Ok(None)
+    }
+
+    /// The same behind so many steps, and before so many.
+    fn last_met_between(
+        &mut self,
+        alloc: Global,
+        from: u64,
+        end: u64,
+    ) -> Result<Option<Met>, HistoryFault>
+        requires stands { Stands self.old }
+        requires within { end ≤ self.old.path.total }
+        requires before { from < end }
+        ensures stands { Stands self.new }
+        ensures keeps { Keeps self.old self.new }
+        ensures within { IfOk result (λ met. IfSome met (λ found. found.steps < end)) }
+    {
+        let mut place = self.place_at(alloc, from)?;
+        let path = self.path.stretches.as_slice();
+        let part = part_of(alloc, path, from, end - from)?;
+        last_met(&mut place, part.as_slice(), &self.points, from)
     }
 
     /// Stands behind so many of the known steps.

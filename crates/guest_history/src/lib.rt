@@ -1,14 +1,24 @@
 //! A debugger that goes back: it runs the program again from its beginning, up to an earlier step.
 #![tactic(auto)]
 
+mod answers;
+mod conversation;
 mod fault;
+mod forward;
 mod history;
+mod lines;
+mod moving;
 mod path;
 mod points;
+mod preparing;
 mod program;
+mod reply;
 mod running;
+mod searching;
+mod stops;
 mod waiting;
 
+pub use conversation::converse_back;
 pub use fault::HistoryFault;
 pub use history::History;
 pub use program::Program;

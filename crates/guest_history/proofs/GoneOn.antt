@@ -74,7 +74,7 @@ stands_one old debugger hart stands is within stepped points =
 
 -- ---- the next turn of a record
 
-no_more : (path : List Stretch) (n : ℕ) → steps_of (take n path) ≤ steps_of path
+pub no_more : (path : List Stretch) (n : ℕ) → steps_of (take n path) ≤ steps_of path
 unfolding steps_of
 no_more path zero = omega arith
 no_more [] (suc n) = omega arith

@@ -5,3 +5,4 @@ pub mod Standing
 pub mod Filled
 pub mod MovesOn
 pub mod GoneOn
+pub mod Positions

@@ -20,6 +20,9 @@ use std::alloc::Global;
 /// How many steps `back_go` looks at first.
 const FIRST_LOOK: u64 = 1 << 20;
 
+/// Looks that are longer than this one grow no more.
+const MOST_LOOKED: u64 = 1 << 56;
+
 /// A debugger of a program that knows its steps, so that it can go back.
 #[derive(Drop)]
 pub struct History {
@@ -122,7 +125,7 @@ impl History {
                 return Ok(met);
             }
             end = from + 1;
-            width = width.saturating_mul(16);
+            width = wider(width);
         }
         Ok(None)
     }
@@ -144,7 +147,8 @@ impl History {
         let mut place = self.place_at(alloc, from)?;
         let path = self.path.stretches.as_slice();
         let part = part_of(alloc, path, from, end - from)?;
-        last_met(&mut place, part.as_slice(), &self.points, from)
+        let met = last_met(&mut place, part.as_slice(), &self.points, from)?;
+        Ok(met)
     }
 
     /// Stands behind so many of the known steps.
@@ -237,6 +241,14 @@ impl History {
         self.done += count;
         Ok(())
     }
+}
+
+/// How many steps are looked at next.
+fn wider(width: u64) -> u64
+    requires some { 0 < width }
+    ensures some { 0 < result }
+{
+    if width >= MOST_LOOKED { width } else { width * 16 }
 }
 
 /// The process that waits, where no known step was forgotten.

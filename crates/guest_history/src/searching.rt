@@ -62,5 +62,8 @@ fn why_at(place: &Place, whose: Whose, points: &Points, hit: Option<u32>) -> Opt
         return Some(Why::Watch(number));
     }
     let hart = hart_of(whose, place.turn);
-    break_at(&place.process, hart, points).map(Why::Break)
+    match break_at(&place.process, hart, points) {
+        Some(number) => Some(Why::Break(number)),
+        None => None,
+    }
 }

@@ -1,5 +1,11 @@
 //! Where a point would stop a run.
 
+ghost use Rattle.std.specs.Prelude.{◌≡◌, ◌≤◌, length};
+ghost use Rattle.std.specs.List.{position_from};
+ghost use Rattle.flat_machine.specs.Process.{hart_registers};
+ghost use Rattle.debug_core.specs.Points.{is_break_at};
+ghost use Rattle.debug_core.specs.Stops.{break_at};
+
 use crate::points::Points;
 use debug_core::{MOST_POINTS, MOST_WATCHED, Point};
 use flat_machine::FlatProcess;
@@ -52,14 +58,33 @@ fn look_at(process: &FlatProcess, address: u32, length: u32, window: &mut Window
 }
 
 /// The number of the first break at which a hart stands.
-pub(crate) fn break_at(process: &FlatProcess, hart: u32, points: &Points) -> Option<u32> {
+pub(crate) fn break_at(process: &FlatProcess, hart: u32, points: &[Option<Point>]) -> Option<u32>
+    requires few { length points.now ≤ 32 }
+    ensures { result ≡ break_at points.now (hart_registers hart process.now) }
+{
     let pc = process.regs(hart)?.pc();
-    'points: for number in 0..MOST_POINTS {
-        if let Some(Point::Break { address }) = points[number] {
-            if address == pc {
-                return Some(number as u32);
-            }
+    break_before(pc, points)
+}
+
+/// The number of the first break at an address.
+fn break_before(pc: u32, points: &[Option<Point>]) -> Option<u32>
+    requires few { length points.now ≤ 32 }
+    ensures { result ≡ position_from (is_break_at pc) 0 points.now }
+{
+    'points: for number in 0..points.len() {
+        if is_break_at(pc, points[number]) {
+            return Some(number as u32);
         }
     }
     None
+}
+
+/// Whether a point is a break at an address.
+fn is_break_at(pc: u32, point: Option<Point>) -> bool
+    ensures { result ≡ is_break_at pc point }
+{
+    match point {
+        Some(Point::Break { address }) => address == pc,
+        _ => false,
+    }
 }

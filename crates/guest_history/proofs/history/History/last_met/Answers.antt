@@ -1,0 +1,9 @@
+use Rattle.std.proofs.Common.{arith}
+use Rattle.guest_history.proofs.history.History.last_met.Goals as goal
+
+pub looks-smaller : goal.looks-smaller
+looks-smaller c =
+    let more = c.looks-test.true in
+    let least = c.min.ensures in
+    let some = c.looks.invariant.some in
+    omega (arith, more, least, some)

@@ -1,5 +1,8 @@
 //! `guest debug`: a debugger that answers the lines of standard input, as `paged debug` does, of a program that has an input.
 
+ghost use Rattle.std.specs.Prelude.{IfOk};
+ghost use Rattle.guest_history.specs.Histories.{Stands};
+
 use crate::frame_machine::FrameMachine;
 use crate::replayed_program::{check_record, read_same_image, read_same_input, read_told};
 use crate::request::DebugRequest;
@@ -47,13 +50,15 @@ where
 fn history_of<'a, R: Folder + AllocGlobal>(
     rt: &R,
     request: DebugRequest<'a>,
-) -> Result<History, Wrong<'a>> {
+) -> Result<History, Wrong<'a>>
+    ensures { IfOk result Stands }
+{
     match request.record {
         None => {
             let image = read_image(rt, request.image)?;
             let input = read_input(rt, request.input)?;
             let program = Program { image, input };
-            Ok(History::new(rt.alloc(), program)?)
+            begun(History::new(rt.alloc(), program), request.image)
         }
         Some(record) => recorded_history(rt, request, record),
     }
@@ -64,7 +69,9 @@ fn recorded_history<'a, R: Folder + AllocGlobal>(
     rt: &R,
     request: DebugRequest<'a>,
     record: &'a str,
-) -> Result<History, Wrong<'a>> {
+) -> Result<History, Wrong<'a>>
+    ensures { IfOk result Stands }
+{
     let alloc = rt.alloc();
     let told = read_told(rt, record)?;
     let image = read_same_image(rt, request.image, &told)?;
@@ -72,7 +79,18 @@ fn recorded_history<'a, R: Folder + AllocGlobal>(
     let program = Program { image, input };
     check_record(alloc, record, &program, &told)?;
     let turns = told.turns.as_slice();
-    Ok(History::recorded(alloc, program, turns, told.closing.steps)?)
+    begun(History::recorded(alloc, program, turns), request.image)
+}
+
+/// A debugger, where it could be had.
+fn begun<'a>(history: Result<History, HistoryFault>, image: &'a str) -> Result<History, Wrong<'a>>
+    requires stands { IfOk history Stands }
+    ensures { IfOk result Stands }
+{
+    match history {
+        Ok(history) => Ok(history),
+        Err(fault) => Err(wrong_of(fault, image)),
+    }
 }
 
 /// What is wrong where a conversation on frames was broken off.

@@ -1,8 +1,8 @@
 //! The program of a record.
 
-use guest_history::Program;
 use elf_image::Image;
 use flat_machine::FlatProcess;
+use guest_history::Program;
 use image_files::{Fault, Folder, image_in, read_input};
 use record_commands::RecordsFault;
 use run_records::{Record, RecordFault, ReplayFault, is_print_of, read_record, replay};

@@ -63,7 +63,7 @@ along_by_turns path (suc count) at turn process all e =
     by_turn path count at turn process all again (Some next) is f =
         let then : Place = record { turn = turn_after at.turn next; process = next } in
         let one : along path 1 at ≡ Some then =
-            ap (λ w. step_by w at) (all 0 (omega arith)) ∙ ap (option_map (λ (p : Process). record { turn = turn_after at.turn p; process = p })) is in
+        ap (λ w. step_by w at) (all 0 (omega arith)) ∙ ap (option_map (λ (p : Process). record { turn = turn_after at.turn p; process = p })) is in
         let rest = again then f in
         let split = along_behind path path 1 count at then one (λ i h. all i (omega (arith, h)) ∙ sym (all (1 + i) (omega (arith, h)))) in
         let more : 1 + count ≡ suc count = omega arith in
@@ -94,7 +94,7 @@ along_hart path (suc count) hart at process all e =
     by_first path count hart at process all again (Some next) is f =
         let then : Place = record { turn = turn_after hart next; process = next } in
         let one : along path 1 at ≡ Some then =
-            ap (λ w. step_by w at) (all 0 (omega arith)) ∙ ap (option_map (λ (p : Process). record { turn = turn_after hart p; process = p })) is in
+        ap (λ w. step_by w at) (all 0 (omega arith)) ∙ ap (option_map (λ (p : Process). record { turn = turn_after hart p; process = p })) is in
         let rest = turn_is path hart process count next (again then f) in
         let split = along_behind path path 1 count at then one (λ i h. all i (omega (arith, h)) ∙ sym (all (1 + i) (omega (arith, h)))) in
         let more : 1 + count ≡ suc count = omega arith in
@@ -141,7 +141,7 @@ pub along_stretch : (path : List Stretch) (n : ℕ) (stretch : Stretch) (first a
     → along path (steps_of (take n path)) first ≡ Some at → along (stretch ∷ []) stretch.count at ≡ Some next → along path (steps_of (take (n + 1) path)) first ≡ Some next
 along_stretch path n stretch first at next within is there e =
     let same : ((i : ℕ) → i < stretch.count → whose_at (stretch ∷ []) i ≡ whose_at path (steps_of (take n path) + i)) =
-        λ i h. whose_here stretch [] i h ∙ sym (whose_in path n stretch i within is h) in
+    λ i h. whose_here stretch [] i h ∙ sym (whose_in path n stretch i within is h) in
     ap (λ k. along path k first) (steps_more path n stretch within is) ∙ sym (along_behind (stretch ∷ []) path (steps_of (take n path)) stretch.count first at there same) ∙ e
 
 -- ---- what the loops need

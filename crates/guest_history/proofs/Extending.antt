@@ -68,7 +68,7 @@ lengthens old new end extra d set counted some is whose_is count_is set_is total
     let path = old.stretches.items in
     let last = slice_index_or path (length path - 1) d in
     let made : set ≡ more_of last extra =
-        ap (λ (w : Whose). record { whose = w; count = set.count }) whose_is ∙ ap (λ n. record { whose = last.whose; count = n }) count_is in
+    ap (λ (w : Whose). record { whose = w; count = set.count }) whose_is ∙ ap (λ n. record { whose = last.whose; count = n }) count_is in
     let all : new.stretches.items ≡ with_more path extra = set_is ∙ ap (slice_set path (length path - 1)) made ∙ set_last path extra d some in
     record {
       counted = ap steps_of all ∙ steps_with path extra some ∙ ap (λ n. n + extra) counted ∙ sym is ∙ sym total_is;
@@ -105,7 +105,7 @@ least (stretch ∷ (next ∷ path)) d some =
     let place : length (stretch ∷ (next ∷ path)) - 1 ≡ suc (length (next ∷ path) - 1) = omega arith in
     let rest = least (next ∷ path) d (omega arith) in
     let same : (slice_index_or (stretch ∷ (next ∷ path)) (length (stretch ∷ (next ∷ path)) - 1) d).count ≡ (slice_index_or (next ∷ path) (length (next ∷ path) - 1) d).count =
-        ap (λ k. (slice_index_or (stretch ∷ (next ∷ path)) k d).count) place in
+    ap (λ k. (slice_index_or (stretch ∷ (next ∷ path)) k d).count) place in
     omega (arith, rest, same)
 
 all_last : (path : List Stretch) (d : Stretch) (i : ℕ) → 0 < length path → steps_of path ≤ i + (slice_index_or path (length path - 1) d).count → i < steps_of path → whose_at path i ≡ Some (slice_index_or path (length path - 1) d).whose
@@ -115,7 +115,7 @@ all_last (stretch ∷ []) d i some past h = whose_here stretch [] i (omega (arit
 all_last (stretch ∷ (next ∷ path)) d i some past h =
     let place : length (stretch ∷ (next ∷ path)) - 1 ≡ suc (length (next ∷ path) - 1) = omega arith in
     let same : (slice_index_or (stretch ∷ (next ∷ path)) (length (stretch ∷ (next ∷ path)) - 1) d).count ≡ (slice_index_or (next ∷ path) (length (next ∷ path) - 1) d).count =
-        ap (λ k. (slice_index_or (stretch ∷ (next ∷ path)) k d).count) place in
+    ap (λ k. (slice_index_or (stretch ∷ (next ∷ path)) k d).count) place in
     let few = least (next ∷ path) d (omega arith) in
     let first : stretch.count ≤ i = omega (arith, past, same, few) in
     whose_past stretch (next ∷ path) i first ∙ all_last (next ∷ path) d (i - stretch.count) (omega arith) (omega (arith, past, same, first)) (omega (arith, h, first))
@@ -183,10 +183,13 @@ extends_less old new done whose count end is_kept counted within end_is goes lon
 
 behind : (before : List Stretch) (new : Path) (done : ℕ) (stretch : Stretch) (count end : ℕ) → steps_of before ≡ done → end ≡ done + count → new.stretches.items ≡ before ++ taken_of stretch count → new.total ≡ end
     → IsCounted new × (((i : ℕ) → i < count → whose_at new.stretches.items (done + i) ≡ Some stretch.whose) × ((i : ℕ) → i < done → whose_at new.stretches.items i ≡ whose_at before i))
-behind before new done stretch count end counted end_is made total_is =
-    (ap steps_of made ∙ steps_both before (taken_of stretch count) ∙ ap (λ n. n + steps_of (taken_of stretch count)) counted ∙ ap (λ n. done + n) (steps_taken_of stretch count) ∙ sym end_is ∙ sym total_is,
-    (λ i h. ap (λ (l : List Stretch). whose_at l (done + i)) made ∙ ap (λ k. whose_at (before ++ taken_of stretch count) (k + i)) (sym counted) ∙ whose_behind before (taken_of stretch count) i ∙ whose_taken stretch count i h,
-    λ i h. ap (λ (l : List Stretch). whose_at l i) made ∙ whose_before before (taken_of stretch count) i (omega (arith, h, counted))))
+behind before new done stretch count end counted end_is made total_is = (
+  ap steps_of made ∙ steps_both before (taken_of stretch count) ∙ ap (λ n. n + steps_of (taken_of stretch count)) counted ∙ ap (λ n. done + n) (steps_taken_of stretch count) ∙ sym end_is ∙ sym total_is,
+  (
+    λ i h. ap (λ (l : List Stretch). whose_at l (done + i)) made ∙ ap (λ k. whose_at (before ++ taken_of stretch count) (k + i)) (sym counted) ∙ whose_behind before (taken_of stretch count) i ∙ whose_taken stretch count i h,
+    λ i h. ap (λ (l : List Stretch). whose_at l i) made ∙ whose_before before (taken_of stretch count) i (omega (arith, h, counted)),
+  ),
+)
 
 pub extends_at_end : (old new : Path) (done : ℕ) (whose : Whose) (count end : ℕ) (is_kept : Bool) → IsCounted old → done ≡ old.total → end ≡ done + count
     → new.stretches.items ≡ old.stretches.items ++ taken_of (record { whose = whose; count = count }) count → new.total ≡ end → Extends old done whose count is_kept new

@@ -34,9 +34,9 @@ fill_more points old new n number within long e free made =
     let size : length (take n points) ≡ n = let cut = length-take n points in omega (arith, cut, within, long) in
     let old_is : old ≡ map filled (take n points) ++ replicate (suc k) None = e ∙ ap (λ j. map filled (take n points) ++ replicate j None) left in
     let place : number ≡ n =
-        some_same number n (sym free ∙ ap lowest_free old_is ∙ free_behind 0 k (take n points) ∙ ap Some (let zero_more : 0 + length (take n points) ≡ n = omega (arith, size) in zero_more)) in
+    some_same number n (sym free ∙ ap lowest_free old_is ∙ free_behind 0 k (take n points) ∙ ap Some (let zero_more : 0 + length (take n points) ≡ n = omega (arith, size) in zero_more)) in
     let first : map filled (take (n + 1) points) ≡ map filled (take n points) ++ filled point ∷ [] =
-        ap (map filled) (take_more points n None (omega (arith, within, long))) ∙ map-append filled (take n points) (point ∷ []) in
+    ap (map filled) (take_more points n None (omega (arith, within, long))) ∙ map-append filled (take n points) (point ∷ []) in
     let rest : 32 - (n + 1) ≡ k = omega (arith, within) in
     made ∙ ap (λ (l : List (Option Point)). slice_set l number (filled point)) old_is
     ∙ ap (λ j. slice_set (map filled (take n points) ++ replicate (suc k) None) j (filled point)) (place ∙ sym size)

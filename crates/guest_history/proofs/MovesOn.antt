@@ -51,11 +51,12 @@ next_by_turns path n first m now alone led whose e = by_step (flat_step m.turn m
     by_step (Some next) is f =
         let made : Moment = record { process = next; turn = turn_next m.alone m.turn next; was = m.process.memory; alone = m.alone } in
         let same = some_moment made now f in
-        let more : suc n ≡ n + 1 = omega arith in
-        (ap (λ (x : Moment). x.alone) (sym same) ∙ alone,
-        ap (λ k. along path k (place_at first)) more ∙ along_more path n (place_at first) (place_at m) led ∙ ap (λ w. step_by w (place_at m)) whose
-        ∙ ap (option_map (λ (p : Process). record { turn = turn_after m.turn p; process = p })) is
-        ∙ ap (λ b. Some (record { turn = turn_next b m.turn next; process = next })) (sym alone) ∙ ap (λ (x : Moment). Some (place_at x)) same)
+        let more : suc n ≡ n + 1 = omega arith in (
+          ap (λ (x : Moment). x.alone) (sym same) ∙ alone,
+          ap (λ k. along path k (place_at first)) more ∙ along_more path n (place_at first) (place_at m) led ∙ ap (λ w. step_by w (place_at m)) whose
+              ∙ ap (option_map (λ (p : Process). record { turn = turn_after m.turn p; process = p })) is
+              ∙ ap (λ b. Some (record { turn = turn_next b m.turn next; process = next })) (sym alone) ∙ ap (λ (x : Moment). Some (place_at x)) same,
+        )
 
 before_next : (n : ℕ) (first now : Moment) → moment_after (suc n) first ≡ Some now → (m : Moment) × ((moment_after n first ≡ Some m) × (next_moment m ≡ Some now))
 unfolding moment_after
@@ -97,19 +98,21 @@ next_alone path n hart turn first m now alone led whose e = by_step (flat_step m
         let made : Moment = record { process = next; turn = turn_next m.alone m.turn next; was = m.process.memory; alone = m.alone } in
         let same = some_moment made now f in
         let more : suc n ≡ n + 1 = omega arith in
-        let step : flat_step hart m.process ≡ Some next = ap (λ h. flat_step h m.process) (sym alone.1) ∙ is in
-        ((ap (λ (x : Moment). x.alone) (sym same) ∙ alone.0, ap (λ (x : Moment). x.turn) (sym same) ∙ ap (λ b. turn_next b m.turn next) alone.0 ∙ alone.1),
-        ap (λ k. along path k (record { turn = turn; process = first.process })) more ∙ along_more path n (record { turn = turn; process = first.process }) (place_left n hart turn m) led
-        ∙ ap (λ w. step_by w (place_left n hart turn m)) whose
-        ∙ ap (option_map (λ (p : Process). record { turn = turn_after hart p; process = p })) step
-        ∙ ap (λ (x : Moment). Some (record { turn = turn_after hart x.process; process = x.process })) same)
+        let step : flat_step hart m.process ≡ Some next = ap (λ h. flat_step h m.process) (sym alone.1) ∙ is in (
+          (ap (λ (x : Moment). x.alone) (sym same) ∙ alone.0, ap (λ (x : Moment). x.turn) (sym same) ∙ ap (λ b. turn_next b m.turn next) alone.0 ∙ alone.1),
+          ap (λ k. along path k (record { turn = turn; process = first.process })) more ∙ along_more path n (record { turn = turn; process = first.process }) (place_left n hart turn m) led
+              ∙ ap (λ w. step_by w (place_left n hart turn m)) whose
+              ∙ ap (option_map (λ (p : Process). record { turn = turn_after hart p; process = p })) step
+              ∙ ap (λ (x : Moment). Some (record { turn = turn_after hart x.process; process = x.process })) same,
+        )
 
 alone_to : (path : List Stretch) (n hart turn : ℕ) (first now : Moment) → (first.alone ≡ true) × (first.turn ≡ hart) → ((i : ℕ) → i < n → whose_at path i ≡ Some (Hart hart)) → moment_after n first ≡ Some now
     → ((now.alone ≡ true) × (now.turn ≡ hart)) × (along path n (record { turn = turn; process = first.process }) ≡ Some (place_left n hart turn now))
 alone_to path zero hart turn first now alone all e =
-    let same = none_done first now e in
-    ((ap (λ (m : Moment). m.alone) (sym same) ∙ alone.0, ap (λ (m : Moment). m.turn) (sym same) ∙ alone.1),
-    along_none path (record { turn = turn; process = first.process }) ∙ ap (λ (m : Moment). Some (record { turn = turn; process = m.process })) same)
+    let same = none_done first now e in (
+      (ap (λ (m : Moment). m.alone) (sym same) ∙ alone.0, ap (λ (m : Moment). m.turn) (sym same) ∙ alone.1),
+      along_none path (record { turn = turn; process = first.process }) ∙ ap (λ (m : Moment). Some (record { turn = turn; process = m.process })) same,
+    )
 alone_to path (suc n) hart turn first now alone all e =
     let before = before_next n first now e in
     let m = before.0 in

@@ -40,7 +40,7 @@ pub stands_on : (old : History) (whose : Whose) (count : ℕ) (is_kept : Bool) (
 stands_on old whose count is_kept path waiting moves ext kept =
     let there = along_same path.stretches.items old.path.stretches.items old.done (beginning old.program) ext.before ∙ moves.led in
     let split = along_behind (record { whose = whose; count = count } ∷ []) path.stretches.items old.done count (beginning old.program) moves.at there
-        (λ i h. whose_here (record { whose = whose; count = count }) [] i h ∙ sym (ext.added i h)) in
+    (λ i h. whose_here (record { whose = whose; count = count }) [] i h ∙ sym (ext.added i h)) in
     record {
       counted = ext.counted;
       within = ext.reached;

@@ -7,8 +7,8 @@ use crate::fault::HistoryFault;
 use crate::forward::{Stepped, Stop};
 use crate::history::History;
 use crate::lines::HistoryLine;
-use crate::reply::HistoryReply;
 use crate::points::Points;
+use crate::reply::HistoryReply;
 use debug_core::{DebugRefusal, DebugStep, MOST_POINTS, Point};
 use debug_session::{DebugLine, DebugReply, answer};
 use std::alloc::Global;
@@ -105,7 +105,11 @@ impl History {
     {
         match self.debugger.add_watch(address, length) {
             Ok(number) => {
-                put(&mut self.points, number, Some(Point::Watch { address, length }));
+                put(
+                    &mut self.points,
+                    number,
+                    Some(Point::Watch { address, length }),
+                );
                 HistoryReply::Plain(DebugReply::Point(number))
             }
             Err(refusal) => HistoryReply::Plain(DebugReply::Refused(refusal)),

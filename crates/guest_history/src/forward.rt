@@ -59,12 +59,7 @@ impl History {
 
     /// Takes a step of a hart, and notes whose it was.
     #[tactic(auto, using(crate::proofs::GoneOn::moves_one, crate::proofs::GoneOn::stands_still))]
-    fn step_on(
-        &mut self,
-        alloc: Global,
-        hart: u32,
-        whose: Whose,
-    ) -> Result<Stepped, HistoryFault>
+    fn step_on(&mut self, alloc: Global, hart: u32, whose: Whose) -> Result<Stepped, HistoryFault>
         requires stands { Stands self.old }
         requires whose { hart_of whose self.old.debugger.turn ≡ hart }
         ensures stands { OnOk result (Stands self.new) }

@@ -165,7 +165,11 @@ impl History {
     }
 
     /// A debugger with no points behind so many of the known steps.
-    fn debugger_at(&mut self, alloc: Global, step: u64) -> Result<Debugger<FlatProcess>, HistoryFault>
+    fn debugger_at(
+        &mut self,
+        alloc: Global,
+        step: u64,
+    ) -> Result<Debugger<FlatProcess>, HistoryFault>
         requires stands { Stands self.old }
         requires known { step ≤ self.old.path.total }
         ensures keeps { Keeps self.old self.new }
@@ -248,7 +252,11 @@ fn wider(width: u64) -> u64
     requires some { 0 < width }
     ensures some { 0 < result }
 {
-    if width >= MOST_LOOKED { width } else { width * 16 }
+    if width >= MOST_LOOKED {
+        width
+    } else {
+        width * 16
+    }
 }
 
 /// The process that waits, where no known step was forgotten.

@@ -47,10 +47,7 @@ pub(crate) fn go_alone(
 }
 
 /// Takes a step of a hart; or says why it is refused.
-pub(crate) fn step_once(
-    debugger: &mut Debugger<FlatProcess>,
-    hart: u32,
-) -> Result<(), DebugRefusal>
+pub(crate) fn step_once(debugger: &mut Debugger<FlatProcess>, hart: u32) -> Result<(), DebugRefusal>
     ensures stepped { OnOk result (step_of hart (place_of debugger.old) ≡
         Some (place_of debugger.new)) }
     ensures refused { OnErr result (place_of debugger.new ≡ place_of debugger.old) }

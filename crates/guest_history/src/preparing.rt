@@ -28,9 +28,7 @@ impl History {
     /// Whether a process waits close before this step.
     fn is_near(&self) -> bool {
         match &self.waiting {
-            Some(waiting) => {
-                waiting.done <= self.done && self.done - waiting.done <= 2 * LAG
-            }
+            Some(waiting) => { waiting.done <= self.done && self.done - waiting.done <= 2 * LAG }
             None => false,
         }
     }

@@ -10,7 +10,10 @@ pub(crate) enum HistoryReply {
     /// As any debugger.
     Plain(DebugReply),
     /// So many steps were done, of so many that are known.
-    At { done: u64, total: u64 },
+    At {
+        done: u64,
+        total: u64,
+    },
     /// The same, where a point was met on the way back, or the beginning.
     Met {
         why: Option<Why>,
@@ -18,9 +21,15 @@ pub(crate) enum HistoryReply {
         total: u64,
     },
     /// The record has no more steps, behind so many of the run.
-    RecordEnds { steps: u64 },
+    RecordEnds {
+        steps: u64,
+    },
     /// The same, with the harts of the last step and of the next.
-    ToldRecordEnds { last: u32, turn: u32, steps: u64 },
+    ToldRecordEnds {
+        last: u32,
+        turn: u32,
+        steps: u64,
+    },
     /// There is no next step in the record.
     PastRecord,
     /// The next step in the record is another hart's.

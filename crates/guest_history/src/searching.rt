@@ -35,7 +35,12 @@ pub(crate) fn last_met(
     'stretches: for stretch in path {
         let mut left = stretch.count;
         'steps: while left > 0 {
-            met = later(met, steps, before, why_at(place, stretch.whose, points, hit));
+            met = later(
+                met,
+                steps,
+                before,
+                why_at(place, stretch.whose, points, hit),
+            );
             place.step(stretch.whose)?;
             hit = seen.look(&place.process, points);
             steps += 1;

@@ -12,7 +12,7 @@ nothing = record { whose = ByTurns; count = 0 }
 
 pub stretches-init : goal.stretches-init
 unfolding steps_of
-stretches-init c = record { reached = omega arith; met = tt; }
+stretches-init c = record { reached = omega arith; met = tt }
 
 pub overflow_add-steps : goal.overflow_add-steps
 unfolding nothing
@@ -36,4 +36,4 @@ stretches-preserved c =
     let more = steps_more path n here c.stretches-test.true (get_or_default path n nothing here c.stretches-test.true) in
     let reached = c.steps.invariant.reached in
     let none = c.steps-test.false in
-    record { reached = omega (arith, more, reached, none); met = c.steps.invariant.met; }
+    record { reached = omega (arith, more, reached, none); met = c.steps.invariant.met }

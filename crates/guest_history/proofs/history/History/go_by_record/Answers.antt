@@ -28,7 +28,7 @@ go_turn-requires-clause-next c =
     let here = slice_index_or items n nothing in
     let old = c.args.self.now in
     let are : items ≡ part_of old.path.stretches.items old.done (old.path.total - old.done) =
-        c.as_slice-stretch-items.ensures.value ∙ c.in_ok-ahead.ensures ∙ ap (λ (l : List Stretch). part_of l old.done (old.path.total - old.done)) c.as_slice-path.ensures.value in
+    c.as_slice-stretch-items.ensures.value ∙ c.in_ok-ahead.ensures ∙ ap (λ (l : List Stretch). part_of l old.done (old.path.total - old.done)) c.as_slice-path.ensures.value in
     subst (λ (p : Path). IsNext p c.stretches.self.done here) (sym c.stretches.invariant.path)
     (next_turn old.path items old.done c.stretches.self.done n here c.requires.stands.counted c.requires.stands.within are c.stretches-test.true (get_or_default items n nothing here c.stretches-test.true) c.stretches.invariant.done)
 

@@ -1,14 +1,13 @@
 -- Parts of paths lead where the paths do.
-use Rattle.std.proofs.Common.{◌≡◌, ℕ, zero, suc, ◌+◌, ◌-◌, ◌<◌, ◌≤◌, nat_lt, true, false, List, [], ◌∷◌, ◌++◌, length, take, drop, replicate, slice_index_or, Option, Some, None, option_map, option_and_then, unwrap_or, cond, refl, sym, ap, ◌∙◌, subst, arith, zero-add, suc-add}
+use Rattle.std.proofs.Common.{◌≡◌, ℕ, zero, suc, ◌+◌, ◌-◌, ◌<◌, ◌≤◌, nat_lt, true, false, List, [], ◌∷◌, length, take, replicate, slice_index_or, Option, Some, None, option_map, option_and_then, unwrap_or, cond, refl, sym, ap, ◌∙◌, subst, arith, zero-add}
 use Rattle.std.proofs.lemmas.Option.{none-some}
 use Rattle.std.proofs.lemmas.List.{take_all}
 use Rattle.flat_machine.specs.ByTurns.{turn_after, by_turns}
 use Rattle.flat_machine.specs.Process.{Process, flat_step, flat_run}
-use Rattle.guest_history.specs.declared.path.Whose.{Whose}
 use Rattle.guest_history.specs.declared.path.Whose.TheVariants.{ByTurns, Hart}
 use Rattle.guest_history.specs.declared.path.Stretch.{Stretch}
 use Rattle.guest_history.specs.declared.running.Place.{Place}
-use Rattle.guest_history.specs.Paths.{hart_of, step_of, step_by, whose_at, along, steps_of, turn_behind, Leads}
+use Rattle.guest_history.specs.Paths.{step_of, step_by, whose_at, along, steps_of, turn_behind, Leads}
 use Rattle.flat_machine.specs.Schedule.{room, rest_in_last}
 
 pub along_none : (path : List Stretch) (first : Place) → along path 0 first ≡ Some first

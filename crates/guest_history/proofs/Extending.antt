@@ -1,10 +1,10 @@
 -- Paths that grow.
-use Rattle.std.proofs.Common.{◌≡◌, ℕ, zero, suc, ◌+◌, ◌-◌, ◌<◌, ◌≤◌, nat_lt, Bool, true, false, List, [], ◌∷◌, ◌++◌, length, slice_index_or, slice_set, Option, Some, None, refl, sym, ap, ◌∙◌, subst, arith, true≢false}
+use Rattle.std.proofs.Common.{◌≡◌, ℕ, zero, suc, ◌+◌, ◌-◌, ◌<◌, ◌≤◌, nat_lt, Bool, true, false, List, [], ◌∷◌, ◌++◌, length, slice_index_or, slice_set, Option, Some, refl, sym, ap, ◌∙◌, arith, true≢false}
 use Rattle.guest_history.specs.declared.path.Whose.{Whose}
 use Rattle.guest_history.specs.declared.path.Stretch.{Stretch}
 use Rattle.guest_history.specs.declared.path.Path.{Path}
 use Rattle.guest_history.specs.Paths.{whose_at, steps_of, taken_of, part_of}
-use Rattle.guest_history.specs.Extending.{IsCounted, AreSame, Extends, GoesOn, Lengthens, last_whose}
+use Rattle.guest_history.specs.Extending.{IsCounted, Extends, GoesOn, Lengthens, last_whose}
 use Rattle.guest_history.proofs.Along.{whose_here, whose_past}
 use Rattle.guest_history.proofs.Parts.{whose_part, steps_part, is_less, is_most}
 

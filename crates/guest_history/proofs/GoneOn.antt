@@ -1,5 +1,5 @@
 -- Where a debugger stands after steps forward.
-use Rattle.std.proofs.Common.{◌≡◌, ℕ, zero, suc, ◌+◌, ◌-◌, ◌<◌, ◌≤◌, List, [], ◌∷◌, length, take, slice_index_or, Option, Some, None, refl, sym, ap, ◌∙◌, subst, arith}
+use Rattle.std.proofs.Common.{◌≡◌, ℕ, zero, suc, ◌+◌, ◌-◌, ◌<◌, ◌≤◌, List, [], ◌∷◌, length, take, slice_index_or, Some, refl, sym, ap, ◌∙◌, arith}
 use Rattle.flat_machine.specs.Process.{Process}
 use Rattle.debug_core.specs.Debugging.{DebuggerValue}
 use Rattle.guest_history.specs.declared.path.Stretch.{Stretch}

@@ -6,3 +6,4 @@ pub mod Filled
 pub mod MovesOn
 pub mod GoneOn
 pub mod Positions
+pub mod Recorded

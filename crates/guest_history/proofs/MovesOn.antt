@@ -1,5 +1,5 @@
 -- Steps of a debugger on flat memory are steps of a path.
-use Rattle.std.proofs.Common.{◌≡◌, ℕ, zero, suc, ◌+◌, ◌-◌, ◌<◌, ◌≤◌, Bool, true, false, List, [], ◌∷◌, ◌⊎◌, inl, inr, Option, Some, None, option_map, option_and_then, unwrap_or, refl, sym, ap, ◌∙◌, subst, arith}
+use Rattle.std.proofs.Common.{◌≡◌, ℕ, zero, suc, ◌+◌, ◌<◌, ◌≤◌, true, false, List, [], ◌∷◌, inl, inr, Option, Some, None, option_map, option_and_then, unwrap_or, refl, sym, ap, ◌∙◌, arith}
 use Rattle.std.proofs.lemmas.Option.{none-some}
 use Rattle.flat_machine.specs.ByTurns.{turn_after}
 use Rattle.flat_machine.specs.Process.{Process, flat_step}
@@ -10,12 +10,11 @@ use Rattle.debug_core.specs.declared.point.Point.{Point}
 use Rattle.debug_core.specs.declared.point.Why.{Why}
 use Rattle.debug_core.specs.declared.point.Why.TheVariants.{Ended, Watch, Gone, Break, Absent}
 use Rattle.debug_core.specs.declared.point.Why.TheVariants as stop
-use Rattle.guest_history.specs.declared.path.Whose.{Whose}
 use Rattle.guest_history.specs.declared.path.Whose.TheVariants.{ByTurns, Hart}
 use Rattle.guest_history.specs.declared.path.Stretch.{Stretch}
 use Rattle.guest_history.specs.declared.running.Place.{Place}
 use Rattle.guest_history.specs.Histories.{place_of}
-use Rattle.guest_history.specs.Paths.{along, step_by, step_of, whose_at}
+use Rattle.guest_history.specs.Paths.{along, step_by, whose_at}
 use Rattle.guest_history.proofs.Along.{along_none, along_more, whose_here}
 
 -- a flat process lacks nothing

@@ -1,8 +1,7 @@
 -- Parts of paths, stretch by stretch.
-use Rattle.std.proofs.Common.{◌≡◌, ℕ, zero, suc, ◌+◌, ◌-◌, ◌<◌, ◌≤◌, min, nat_lt, Bool, true, false, List, [], ◌∷◌, ◌++◌, length, take, drop, map, slice_index_or, Option, Some, None, refl, sym, ap, ◌∙◌, subst, arith, append-nil, append_assoc, drop-cons}
+use Rattle.std.proofs.Common.{◌≡◌, ℕ, zero, suc, ◌+◌, ◌-◌, ◌<◌, ◌≤◌, min, nat_lt, Bool, true, false, List, [], ◌∷◌, ◌++◌, length, take, drop, slice_index_or, Some, None, refl, sym, ap, ◌∙◌, arith, append-nil, append_assoc}
 use Rattle.std.proofs.lemmas.List.{take_all, take_more, map-append, drop_all}
 use Rattle.flat_machine.specs.declared.schedule.Turn.{Turn}
-use Rattle.guest_history.specs.declared.path.Whose.{Whose}
 use Rattle.guest_history.specs.declared.path.Stretch.{Stretch}
 use Rattle.guest_history.specs.Paths.{whose_at, steps_of, taken_of, part_of, stretch_of, path_of}
 use Rattle.guest_history.proofs.Along.{whose_here, whose_past, steps_more}

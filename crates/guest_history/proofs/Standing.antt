@@ -1,7 +1,6 @@
 -- Where a debugger stands on its path.
-use Rattle.std.proofs.Common.{◌≡◌, ℕ, zero, suc, ◌+◌, ◌-◌, ◌<◌, ◌≤◌, Bool, true, List, [], ◌∷◌, Option, Some, None, IfSome, refl, sym, ap, ◌∙◌, subst, arith}
+use Rattle.std.proofs.Common.{◌≡◌, ℕ, ◌+◌, ◌-◌, ◌≤◌, Bool, true, List, [], ◌∷◌, Option, Some, None, IfSome, sym, ap, ◌∙◌, subst, arith}
 use Rattle.flat_machine.specs.Process.{Process, opening}
-use Rattle.debug_core.specs.Debugging.{DebuggerValue}
 use Rattle.guest_history.specs.declared.path.Path.{Path}
 use Rattle.guest_history.specs.declared.path.Stretch.{Stretch}
 use Rattle.guest_history.specs.declared.path.Whose.{Whose}
@@ -9,9 +8,9 @@ use Rattle.guest_history.specs.declared.running.Place.{Place}
 use Rattle.guest_history.specs.declared.program.Program.{Program}
 use Rattle.guest_history.specs.declared.waiting.Waiting.{Waiting}
 use Rattle.guest_history.specs.declared.history.History.{History}
-use Rattle.guest_history.specs.Extending.{IsCounted, AreSame, Extends}
-use Rattle.guest_history.specs.Paths.{along, first_place, hart_of, part_of, step_by, step_of, steps_of, whose_at, HasTurn}
-use Rattle.guest_history.specs.Histories.{beginning, place_of, IsNear, IsWaiting, Moves, Stands}
+use Rattle.guest_history.specs.Extending.{Extends}
+use Rattle.guest_history.specs.Paths.{along, first_place, hart_of, part_of, step_by, step_of, steps_of, whose_at}
+use Rattle.guest_history.specs.Histories.{beginning, IsNear, IsWaiting, Moves, Stands}
 use Rattle.guest_history.proofs.Along.{along_none, along_more, along_behind, along_same, whose_here}
 use Rattle.guest_history.proofs.Parts.{whose_part, steps_part}
 

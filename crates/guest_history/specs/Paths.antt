@@ -1,5 +1,5 @@
 -- Whose steps a run is made of, in order, and where they lead.
-use Rattle.std.specs.Prelude.{◌≡◌, ℕ, zero, suc, ◌+◌, ◌-◌, ◌==◌, nat_lt, true, List, [], ◌∷◌, ◌++◌, min, map, length, Option, Some, None, option_map, option_and_then, if◌then◌else◌}
+use Rattle.std.specs.Prelude.{◌≡◌, ℕ, zero, suc, ◌+◌, ◌-◌, nat_lt, true, List, [], ◌∷◌, ◌++◌, min, map, Option, Some, None, option_map, option_and_then, if◌then◌else◌}
 use Rattle.flat_machine.specs.ByTurns.{turn_after, first_turn}
 use Rattle.flat_machine.specs.Process.{Process, is_live, flat_step}
 use Rattle.flat_machine.specs.declared.schedule.Turn.{Turn}

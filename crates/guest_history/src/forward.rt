@@ -169,12 +169,20 @@ impl History {
                 });
             }
         }
-        let why = if left == 0 { Some(Why::Limit) } else { None };
+        let why = self.why_at_end(left);
         Ok(Stop {
             why,
             last,
             steps: taken,
         })
+    }
+
+    /// Why a run stops that has come to the end of the record, with so many steps left that were allowed.
+    fn why_at_end(&self, left: u64) -> Option<Why> {
+        if self.debugger.end().is_some() {
+            return Some(Why::Ended);
+        }
+        if left == 0 { Some(Why::Limit) } else { None }
     }
 
     /// Takes steps of a turn, up to so many, until there is a reason to stop.

@@ -1,5 +1,4 @@
 use Rattle.std.proofs.Common.{arith, refl, ap}
-use Rattle.debug_core.specs.Debugging.{DebuggerValue}
 use Rattle.guest_history.specs.Histories.{place_of}
 use Rattle.guest_history.proofs.Standing.{led_first}
 use Rattle.guest_history.proofs.history.History.begin.Goals as goal

@@ -1,4 +1,4 @@
-use Rattle.std.proofs.Common.{arith, refl, ap, sym, subst, ◌∙◌, ◌≡◌, ◌-◌, ◌≤◌, List, slice_index_or}
+use Rattle.std.proofs.Common.{arith, refl, ap, sym, subst, ◌∙◌, ◌≡◌, ◌-◌, List, slice_index_or}
 use Rattle.std.proofs.lemmas.List.{get_or_default}
 use Rattle.guest_history.specs.declared.path.Path.{Path}
 use Rattle.guest_history.specs.declared.path.Stretch.{Stretch}

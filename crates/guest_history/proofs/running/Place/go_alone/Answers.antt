@@ -1,5 +1,4 @@
-use Rattle.std.proofs.Common.{arith, ◌∙◌, ap, sym, replicate, subst, ◌≡◌, Some}
-use Rattle.flat_machine.specs.Process.{flat_run}
+use Rattle.std.proofs.Common.{arith}
 use Rattle.guest_history.proofs.Along.{one_of_hart, some_of_hart}
 use Rattle.guest_history.proofs.running.Place.go_alone.Goals as goal
 

@@ -1,3 +1,5 @@
+pub mod NumberLaws
+pub mod TokenLaws
 pub mod Fronts
 pub mod Numerals
 pub mod OperandSteps

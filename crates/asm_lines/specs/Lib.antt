@@ -3,9 +3,7 @@ pub mod Faults
 pub mod Forms
 pub mod Fronts
 pub mod Lines
-pub mod NumberLaws
 pub mod Numbers
 pub mod Readings
 pub mod Spellings
-pub mod TokenLaws
 pub mod Tokens

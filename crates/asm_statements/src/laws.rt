@@ -10,7 +10,7 @@ ghost use Rattle.asm_statements.specs.SameStatements.{DoesTheSame};
 
 /// What `li` and `la` load: `lui` of the high part and `addi` of the low part, which fits, leave the word, and the word of
 /// a number that `li` takes is the number modulo 2^32.
-#[tactic(auto, using(rv_isa::specs::SplitLaws::parts_make_word, asm_values::specs::RangeLaws::word_is_number))]
+#[tactic(auto, using(rv_isa::proofs::SplitLaws::parts_make_word, asm_values::proofs::RangeLaws::word_is_number))]
 pub fn loaded_word()
     ensures parts { (word : ℕ) → word < 2 ^ 32
         → (high_part word * 4096 + cast_unsigned w32 (low_part word)) % 2 ^ 32 ≡ word }

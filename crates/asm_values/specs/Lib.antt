@@ -1,10 +1,8 @@
 pub mod Answers
 pub mod Directives
-pub mod EachLaws
 pub mod Escapes
 pub mod Lengths
 pub mod Names
 pub mod Operands
-pub mod RangeLaws
 pub mod Ranges
 pub mod Registers

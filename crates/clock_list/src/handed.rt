@@ -27,7 +27,7 @@ impl HandedList for Body {
         self.asked = asked;
     }
 
-    #[tactic(auto, using(clock_policy::specs::LookupLaws::length_is))]
+    #[tactic(auto, using(clock_policy::proofs::LookupLaws::length_is))]
     fn resident_count(&self) -> usize {
         hot_count(&self.entries) + cold_count(&self.entries)
     }

@@ -124,7 +124,7 @@ pub(crate) fn rebuild_turned(to: &mut Vec<Entry>, entries: &[Entry], i: usize, b
     }
 }
 
-#[tactic(auto, using(clock_policy::specs::LookupLaws::round_tests_then, clock_policy::specs::LookupLaws::round_tests_else, clock_policy::specs::LookupLaws::trimmed_list_then, clock_policy::specs::LookupLaws::trimmed_list_else))]
+#[tactic(auto, using(clock_policy::proofs::LookupLaws::round_tests_then, clock_policy::proofs::LookupLaws::round_tests_else, clock_policy::proofs::LookupLaws::trimmed_list_then, clock_policy::proofs::LookupLaws::trimmed_list_else))]
 /// The entries once trimmed from the place on, and how many tests that ended.
 pub(crate) fn rebuild_trimmed(to: &mut Vec<Entry>, entries: &[Entry], i: usize) -> usize
     requires listed { i ≤ length entries.now }

@@ -9,35 +9,35 @@ ghost use Rattle.clock_policy.specs.ClockPro.{is_of_process};
 
 use clock_policy::{Entry, EntryKind, Key};
 
-#[tactic(auto, using(clock_policy::specs::LookupLaws::number_is))]
+#[tactic(auto, using(clock_policy::proofs::LookupLaws::number_is))]
 pub(crate) fn hot_count(entries: &[Entry]) -> usize
     ensures { result ≡ hot_count entries.now }
 {
     entries.iter().filter(|e| e.kind.is_hot()).count()
 }
 
-#[tactic(auto, using(clock_policy::specs::LookupLaws::number_is))]
+#[tactic(auto, using(clock_policy::proofs::LookupLaws::number_is))]
 pub(crate) fn cold_count(entries: &[Entry]) -> usize
     ensures { result ≡ cold_count entries.now }
 {
     entries.iter().filter(|e| e.kind.is_cold()).count()
 }
 
-#[tactic(auto, using(clock_policy::specs::LookupLaws::number_is))]
+#[tactic(auto, using(clock_policy::proofs::LookupLaws::number_is))]
 pub(crate) fn shadow_count(entries: &[Entry]) -> usize
     ensures { result ≡ shadow_count entries.now }
 {
     entries.iter().filter(|e| e.kind.is_shadow()).count()
 }
 
-#[tactic(auto, using(clock_policy::specs::LookupLaws::number_is))]
+#[tactic(auto, using(clock_policy::proofs::LookupLaws::number_is))]
 pub(crate) fn test_count(entries: &[Entry]) -> usize
     ensures { result ≡ test_count entries.now }
 {
     entries.iter().filter(|e| e.kind.is_in_test()).count()
 }
 
-#[tactic(auto, using(clock_policy::specs::LookupLaws::number_is))]
+#[tactic(auto, using(clock_policy::proofs::LookupLaws::number_is))]
 pub(crate) fn process_count(entries: &[Entry], process: u32) -> usize
     ensures count { result ≡ number (is_of_process process) entries.now }
     ensures within { result ≤ length entries.now }
@@ -132,7 +132,7 @@ fn first_staying(part: &[Entry], list: &[Entry]) -> Option<Key>
 }
 
 /// Where a hand of the old list rests when the list is the new one.
-#[tactic(auto, using(clock_policy::specs::LookupLaws::settled_halves))]
+#[tactic(auto, using(clock_policy::proofs::LookupLaws::settled_halves))]
 pub(crate) fn settled(old: &[Entry], new: &[Entry], hand: Option<Key>) -> Option<Key>
     ensures { result ≡ settled old.now new.now hand }
 {
@@ -144,7 +144,7 @@ pub(crate) fn settled(old: &[Entry], new: &[Entry], hand: Option<Key>) -> Option
 }
 
 /// The first cold entry from the cold hand on, once round.
-#[tactic(auto, using(clock_policy::specs::LookupLaws::cold_halves))]
+#[tactic(auto, using(clock_policy::proofs::LookupLaws::cold_halves))]
 pub(crate) fn first_cold_from(entries: &[Entry], hand: Option<Key>) -> Option<Entry>
     ensures { result ≡ find (λ e. is_cold e.kind) (round (place_of hand entries.now) entries.now) }
 {
@@ -156,7 +156,7 @@ pub(crate) fn first_cold_from(entries: &[Entry], hand: Option<Key>) -> Option<En
 }
 
 /// The key of the first shadow from the place on, once round.
-#[tactic(auto, using(clock_policy::specs::LookupLaws::shadow_halves))]
+#[tactic(auto, using(clock_policy::proofs::LookupLaws::shadow_halves))]
 pub(crate) fn first_shadow_from(entries: &[Entry], i: usize) -> Option<Key>
     requires { i ≤ length entries.now }
     ensures { result ≡ found_key (find (λ e. is_shadow e.kind) (round i entries.now)) }
@@ -169,7 +169,7 @@ pub(crate) fn first_shadow_from(entries: &[Entry], i: usize) -> Option<Key>
 }
 
 /// The key of the entry at the place, or of the front where that is past the last.
-#[tactic(auto, using(clock_policy::specs::LookupLaws::any_halves))]
+#[tactic(auto, using(clock_policy::proofs::LookupLaws::any_halves))]
 pub(crate) fn first_key_from(entries: &[Entry], i: usize) -> Option<Key>
     requires { i ≤ length entries.now }
     ensures { result ≡ found_key (find (λ _. true) (round i entries.now)) }

@@ -17,7 +17,7 @@ pub(crate) fn is_full<L: HandedList>(list: &L) -> bool
     list.resident_count() == list.frames()
 }
 
-#[tactic(auto, using(clock_policy::specs::LookupLaws::length_is))]
+#[tactic(auto, using(clock_policy::proofs::LookupLaws::length_is))]
 #[inline(always)]
 fn admit_new<L: HandedList>(list: &mut L, key: Key) -> Result<Kind, Refusal>
     requires few { HasFewEntries (L.state list.old) }

@@ -10,7 +10,7 @@ use crate::found::Found;
 use crate::handed_list::HandedList;
 use clock_policy::{Entry, EntryKind, Key, Refusal};
 
-#[tactic(auto, using(clock_policy::specs::LookupLaws::length_is))]
+#[tactic(auto, using(clock_policy::proofs::LookupLaws::length_is))]
 fn restore_new<L: HandedList>(list: &mut L, key: Key) -> Result<(), Refusal>
     requires few { HasFewEntries (L.state list.old) }
     requires new { kind_of key (L.state list.old).entries ≡ None }

@@ -3,7 +3,7 @@ use Rattle.std.specs.Prelude.{◌≡◌, ℕ, suc, ◌+◌, ◌≤◌, List, [],
 use Rattle.std.proofs.Common.{arith, ap}
 use Rattle.clock_policy.specs.declared.entry.EntryKind.{EntryKind}
 use Rattle.clock_policy.specs.ClockPro.{is_hot, is_cold, is_shadow, hot_count, cold_count, shadow_count}
-use Rattle.clock_policy.specs.LookupLaws.{length_is}
+use Rattle.clock_policy.proofs.LookupLaws.{length_is}
 use Rattle.page_ring.specs.Linked.{Cell}
 use Rattle.page_ring.specs.Chain.{of_kind}
 use Rattle.page_ring.specs.Index.{entries_of, number-cells, mark_number, remove_number, append_number}

@@ -3,18 +3,18 @@ use Rattle.std.specs.Prelude.{◌≡◌, ℕ, suc, ◌+◌, Bool, true, false, �
 use Rattle.std.proofs.Common.{arith, sym, ap, ◌∙◌, subst, append_assoc, add-one, eqb-true, append-nil, ne_eqb}
 use Rattle.std.proofs.Math.Bool.{or-true, or_comm}
 use Rattle.std.proofs.lemmas.Bool.{or_parts, eqb-false}
-use Rattle.clock_policy.specs.AdmitLaws.{is_key_self}
+use Rattle.clock_policy.proofs.AdmitLaws.{is_key_self}
 use Rattle.clock_policy.specs.declared.key.Key.{Key}
 use Rattle.clock_policy.specs.declared.entry.Entry.{Entry}
 use Rattle.clock_policy.specs.declared.entry.EntryKind.{EntryKind}
 use Rattle.clock_policy.specs.declared.entry.EntryKind.TheVariants.{Shadow}
 use Rattle.clock_policy.specs.ClockPro.{ClockState, number, has_key, place, round, found_key, settled, relisted, removed, appended, marked, sent_to_end, cold_hand_on, shadowed}
-use Rattle.clock_policy.specs.ListedLaws.{has_key_refl}
+use Rattle.clock_policy.proofs.ListedLaws.{has_key_refl}
 use Rattle.clock_policy.specs.Residents.{is_key}
-use Rattle.clock_policy.specs.SettledLaws.{keys, among, rest, settled_rest, from_key, before_key, among-append, keys-append}
+use Rattle.clock_policy.proofs.SettledLaws.{keys, among, rest, settled_rest, from_key, before_key, among-append, keys-append}
 use Rattle.clock_policy.specs.SingleMoves.{front_turned, test_hand_on}
-use Rattle.clock_policy.specs.SingleMoveLaws.{rest_stays, without_at}
-use Rattle.clock_policy.specs.TrimMoveLaws.{set_at}
+use Rattle.clock_policy.proofs.SingleMoveLaws.{rest_stays, without_at}
+use Rattle.clock_policy.proofs.TrimMoveLaws.{set_at}
 use Rattle.page_ring.specs.Linked.{Cell, DistinctNodes, is_at, first_at}
 use Rattle.page_ring.specs.LinkLaws.{at_self, is_at-append}
 use Rattle.page_ring.specs.Chain.{of_kind}

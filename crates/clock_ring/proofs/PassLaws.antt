@@ -5,8 +5,8 @@ use Rattle.clock_policy.specs.declared.key.Key.{Key}
 use Rattle.clock_policy.specs.declared.entry.Entry.{Entry}
 use Rattle.clock_policy.specs.declared.entry.EntryKind.{EntryKind}
 use Rattle.clock_policy.specs.ClockPro.{ClockState, has_key, number, place}
-use Rattle.clock_policy.specs.ListedLaws.{has_key_refl}
-use Rattle.clock_policy.specs.CountLaws.{IsIn}
+use Rattle.clock_policy.proofs.ListedLaws.{has_key_refl}
+use Rattle.clock_policy.proofs.CountLaws.{IsIn}
 use Rattle.clock_policy.specs.SingleMoves.{kind_passed, front_passed, fronts_passed}
 use Rattle.page_ring.specs.declared.links.Node.{Node}
 use Rattle.page_ring.specs.Linked.{Cell}

@@ -8,7 +8,7 @@ use Rattle.clock_policy.specs.declared.entry.Entry.{Entry}
 use Rattle.clock_policy.specs.declared.entry.EntryKind.{EntryKind}
 use Rattle.clock_policy.specs.declared.entry.EntryKind.TheVariants.{Shadow}
 use Rattle.clock_policy.specs.ClockPro.{ClockState, has_key, kind_of, found_key, removed, appended, marked, sent_to_end, cold_hand_on, shadowed}
-use Rattle.clock_policy.specs.AdmitLaws.{keyed}
+use Rattle.clock_policy.proofs.AdmitLaws.{keyed}
 use Rattle.clock_policy.specs.SingleMoves.{front_turned, test_hand_on}
 use Rattle.page_ring.specs.declared.links.Node.{Node}
 use Rattle.page_ring.specs.Linked.{Cell, DistinctNodes, is_at, first_at, last_at}

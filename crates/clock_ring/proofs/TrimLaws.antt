@@ -6,10 +6,10 @@ use Rattle.clock_policy.specs.declared.entry.Entry.{Entry}
 use Rattle.clock_policy.specs.declared.entry.EntryKind.{EntryKind}
 use Rattle.clock_policy.specs.declared.entry.EntryKind.TheVariants.{Hot, Test, Cold, Shadow}
 use Rattle.clock_policy.specs.ClockPro.{ClockState, number, is_shadow, is_in_test, shadow_count, place_of, round, removed, marked, fallen, trimmed_once}
-use Rattle.clock_policy.specs.CountLaws.{number_any}
-use Rattle.clock_policy.specs.SteadyLaws.{Based}
+use Rattle.clock_policy.proofs.CountLaws.{number_any}
+use Rattle.clock_policy.proofs.SteadyLaws.{Based}
 use Rattle.clock_policy.specs.SingleMoves.{test_hand_on, kind_ended, each_ended}
-use Rattle.clock_policy.specs.TrimMoveLaws.{trimmed_by_moves}
+use Rattle.clock_policy.proofs.TrimMoveLaws.{trimmed_by_moves}
 use Rattle.page_ring.specs.declared.links.Node.{Node}
 use Rattle.page_ring.specs.Linked.{Cell, DistinctNodes, is_at}
 use Rattle.page_ring.specs.Chain.{of_kind}

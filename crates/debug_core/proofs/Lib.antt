@@ -1,3 +1,4 @@
+pub mod ReadingLaws
 pub mod Alone
 pub mod Passing
 pub mod Points

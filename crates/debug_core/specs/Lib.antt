@@ -2,7 +2,6 @@ pub mod Debugging
 pub mod Limits
 pub mod Points
 pub mod Progresses
-pub mod ReadingLaws
 pub mod RefusalNumber
 pub mod Seen
 pub mod Stops

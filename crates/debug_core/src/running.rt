@@ -107,7 +107,7 @@ fn reason_now<T: Target>(
 /// # Errors
 ///
 /// Want of memory for the step; nothing has changed then but what was seen.
-#[tactic(auto, using(flat_machine::specs::StepLaws::may_step_when_live))]
+#[tactic(auto, using(flat_machine::proofs::StepLaws::may_step_when_live))]
 fn advance<T: Target>(
     target: &mut T,
     alone: bool,

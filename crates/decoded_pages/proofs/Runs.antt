@@ -8,7 +8,7 @@ use Rattle.page_memory.specs.Rights.{may}
 use Rattle.page_memory.specs.Words.{page_number}
 use Rattle.page_memory.specs.Pages.{Page, answer_by, number_at, aligned_page}
 use Rattle.page_memory.specs.Pages as plain
-use Rattle.page_memory.specs.AccessLaws.{aligned_usable, usable_found}
+use Rattle.page_memory.proofs.AccessLaws.{aligned_usable, usable_found}
 use Rattle.page_memory.specs.Memory.{Memory, fetched}
 use Rattle.page_memory.specs.ReadOnly.{KeepsReadOnly}
 use Rattle.page_memory.proofs.KeptPages.{kept_itself, kept_on}
@@ -16,7 +16,7 @@ use Rattle.rv_exec.specs.Arithmetic.{word_sum}
 use Rattle.rv_exec.specs.Registers.{Registers, with_pc}
 use Rattle.rv_exec.specs.RegistersLaws.{pc_aside, read_aside}
 use Rattle.rv_exec.specs.Line.{Next, Call, line}
-use Rattle.rv_exec.specs.LineLaws.{line_fetched, all_front}
+use Rattle.rv_exec.proofs.LineLaws.{line_fetched, all_front}
 use Rattle.rv_exec.specs.Uses.{load_pages, store_pages, fetched_pages, fetched_stores, decoded_pages, pages_used, pages_stored}
 use Rattle.rv_isa.specs.Table.{insn_of}
 use Rattle.decoded_pages.specs.declared.performing.After.{After}

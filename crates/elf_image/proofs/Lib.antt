@@ -1,3 +1,6 @@
+pub mod ImageLaws
+pub mod PartsLaws
+pub mod RisingLaws
 pub mod Headers
 pub mod HeadersBack
 pub mod LoadedImages

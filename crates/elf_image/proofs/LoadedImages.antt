@@ -20,7 +20,7 @@ use Rattle.elf_image.specs.ElfFiles.{end_of, touches, loaded_page, loaded_pages,
 use Rattle.elf_image.specs.Segments.{IsSoundSegment}
 use Rattle.elf_image.specs.Parts.{first_fault, too_high, rising, entered, parts_fault, image_of_parts}
 use Rattle.elf_image.specs.Regions.{regions}
-use Rattle.elf_image.specs.RisingLaws.{rises}
+use Rattle.elf_image.proofs.RisingLaws.{rises}
 use Rattle.elf_image.proofs.Overlaps.{overlap_moved, two_overlap}
 use Rattle.elf_image.proofs.TouchedRanges.{page_limit_is}
 use Rattle.elf_image.proofs.Reading.{sound_segments, pages_moved}

@@ -10,7 +10,7 @@ use Rattle.elf_image.specs.declared.image.ImagePage.{ImagePage}
 use Rattle.elf_image.specs.declared.runs.Run.{Run}
 use Rattle.elf_image.specs.ElfFiles.{touches, touched_pages, image_page_limit, page_rights, bytes_between, loaded_byte, loaded_page, loaded_pages}
 use Rattle.elf_image.specs.Parts.{rising, readable_page}
-use Rattle.elf_image.specs.RisingLaws.{rising_rest, rising_far}
+use Rattle.elf_image.proofs.RisingLaws.{rising_rest, rising_far}
 use Rattle.elf_image.specs.WrittenFiles.{flags_of, page_bytes}
 use Rattle.elf_image.proofs.HeadersBack.{run_header}
 use Rattle.elf_image.proofs.LoadedRuns.{blank, page_at, Rising, touched, touched_only, granted, byte_loaded}

@@ -12,9 +12,9 @@ use Rattle.page_memory.specs.declared.words.Access.TheVariants.{Fetch, Load, Sto
 use Rattle.elf_image.specs.declared.image.ImagePage.{ImagePage}
 use Rattle.elf_image.specs.Image.{IsLawful}
 use Rattle.elf_image.specs.Parts.{readable_page, entered, parts_fault}
-use Rattle.elf_image.specs.PartsLaws.{pass_from_no_fault}
+use Rattle.elf_image.proofs.PartsLaws.{pass_from_no_fault}
 use Rattle.elf_image.specs.Regions.{region_of, distinct, regions}
-use Rattle.elf_image.specs.RisingLaws.{rising_far, low_pages}
+use Rattle.elf_image.proofs.RisingLaws.{rising_far, low_pages}
 
 -- what may be written may be read
 readable_loads : (rights : Rights) → IsTrue (may Store (readable rights)) → IsTrue (may Load (readable rights))

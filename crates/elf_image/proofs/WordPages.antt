@@ -13,8 +13,8 @@ use Rattle.std.proofs.lemmas.List.Folds.{list_any_at}
 use Rattle.page_memory.specs.Words.{page_offset}
 use Rattle.elf_image.specs.declared.image.ImagePage.{ImagePage}
 use Rattle.elf_image.specs.Image.{IsLawful, bytes_of, padded, word_page, word_pages, most_words}
-use Rattle.elf_image.specs.ImageLaws.{length-bytes_of}
-use Rattle.elf_image.specs.PartsLaws.{neighbours}
+use Rattle.elf_image.proofs.ImageLaws.{length-bytes_of}
+use Rattle.elf_image.proofs.PartsLaws.{neighbours}
 
 -- one more word's bytes
 bytes_more : (words : List ℕ) (i : ℕ) → i < length words → bytes_of (take (i + 1) words) ≡ bytes_of (take i words) ++ little_bytes 4 (slice_index words i)

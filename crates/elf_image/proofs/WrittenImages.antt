@@ -3,13 +3,13 @@ use Rattle.std.proofs.Common.{◌≡◌, ℕ, suc, ◌+◌, ◌*◌, ◌<◌, �
 use Rattle.std.specs.List.{list_any, filter}
 use Rattle.std.specs.Option.{option_or}
 use Rattle.std.proofs.lemmas.Bool.{and_right}
-use Rattle.elf_image.specs.PartsLaws.{no_fault_after}
+use Rattle.elf_image.proofs.PartsLaws.{no_fault_after}
 use Rattle.elf_image.specs.declared.runs.Run.{Run}
 use Rattle.elf_image.specs.declared.program_header.ProgramHeader.{ProgramHeader}
 use Rattle.elf_image.specs.declared.fault.ElfFault.TheVariants.{Dynamic, SegmentOutOfFile, SizeOrder, Range, Overlap, TooLarge, TooSparse, EntryNotExecutable}
 use Rattle.elf_image.specs.Image.{ImageContent, IsLawful}
 use Rattle.elf_image.specs.Parts.{rising, entered, image_of_parts, readable_page}
-use Rattle.elf_image.specs.RisingLaws.{rises}
+use Rattle.elf_image.proofs.RisingLaws.{rises}
 use Rattle.elf_image.specs.Regions.{regions}
 use Rattle.elf_image.specs.ElfFiles.{file_entry, program_headers, load_headers, segments, is_load, is_dynamic, is_out_of_file, is_larger_in_file, is_out_of_range, overlap, loaded_pages, file_pages, header_fault, program_fault, loading_fault, file_fault, file_image}
 use Rattle.elf_image.specs.WrittenFiles.{runs, file_header, segment_header, padding, pages_offset, page_bytes, file_front, elf_file, IsHeld}

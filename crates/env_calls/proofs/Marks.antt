@@ -2,7 +2,7 @@
 use Rattle.std.proofs.Common.{◌≡◌, ◌<◌, ◌≤◌, ℕ, zero, suc, ◌+◌, Bool, true, false, cond, List, [], ◌∷◌, length, get_or, drop, take, set, Some, None, is_some, arith, refl, ap, sym, ◌∙◌, add-one, drop-cons}
 use Rattle.std.specs.List.{list_any, position_from}
 use Rattle.env_calls.specs.Environment.{is_marked, any_live, least_live_from}
-use Rattle.env_calls.specs.LiveLaws.{from_mark, least_none}
+use Rattle.env_calls.proofs.LiveLaws.{from_mark, least_none}
 
 pub least_here : (number : ℕ) (live : List Bool) → number < length live → get_or live number false ≡ true → least_live_from number live ≡ Some number
 least_here number live h marked = from_mark number live h ∙ ap (λ b. cond b (Some number) (position_from is_marked (number + 1) (drop (suc number) live))) marked

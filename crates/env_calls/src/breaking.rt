@@ -13,7 +13,7 @@ use crate::served::{ServeStop, Served};
 use rv_exec::{Bus, Regs};
 
 /// Serves a request to move the break: the break that stands is the answer.
-#[tactic(auto, unfolding(crate::specs::Calls::move_break, crate::specs::Calls::answers), using(crate::specs::LeavingLaws::storing_none))]
+#[tactic(auto, unfolding(crate::specs::Calls::move_break, crate::specs::Calls::answers), using(crate::proofs::LeavingLaws::storing_none))]
 pub fn serve_break<B: Bus>(env: &mut Env, regs: &mut Regs, bus: &mut B) -> Result<Served, ServeStop>
     ensures served { let effect = move_break regs.old env.old (B.memory bus.old)
         (register regs.old a0) in
@@ -38,7 +38,7 @@ pub fn serve_break<B: Bus>(env: &mut Env, regs: &mut Regs, bus: &mut B) -> Resul
 }
 
 /// Moves the break to a request that is granted.
-#[tactic(auto, unfolding(crate::specs::Calls::answers), using(crate::specs::LeavingLaws::storing_none, page_memory::specs::ZeroedLaws::gap_counts))]
+#[tactic(auto, unfolding(crate::specs::Calls::answers), using(crate::proofs::LeavingLaws::storing_none, page_memory::proofs::ZeroedLaws::gap_counts))]
 fn grant_break<B: Bus>(
     env: &mut Env,
     regs: &mut Regs,

@@ -30,7 +30,7 @@ use rv_exec::{Bus, Regs};
 ///
 /// A read or a write where its page lacks the right answers -14, any other number -38.
 #[cold]
-#[tactic(auto, unfolding(crate::specs::Calls::answers, crate::specs::Calls::call, crate::specs::Calls::call_pages, crate::specs::Calls::call_stores), using(crate::specs::LeavingLaws::storing_none))]
+#[tactic(auto, unfolding(crate::specs::Calls::answers, crate::specs::Calls::call, crate::specs::Calls::call_pages, crate::specs::Calls::call_stores), using(crate::proofs::LeavingLaws::storing_none))]
 pub fn serve<B: Bus>(
     env: &mut Env,
     hart: u32,

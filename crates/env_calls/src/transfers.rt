@@ -41,7 +41,7 @@ fn count_to_read(env: &Env, address: u32, wanted: u32) -> usize
 }
 
 /// Serves a read.
-#[tactic(auto, unfolding(crate::specs::Calls::answers, crate::specs::Calls::read, crate::specs::Calls::read_pages), using(crate::specs::LeavingLaws::storing_none))]
+#[tactic(auto, unfolding(crate::specs::Calls::answers, crate::specs::Calls::read, crate::specs::Calls::read_pages), using(crate::proofs::LeavingLaws::storing_none))]
 pub fn serve_read<B: Bus>(env: &mut Env, regs: &mut Regs, bus: &mut B) -> Result<Served, ServeStop>
     ensures served { let memory = B.memory bus.old in
         let effect = read regs.old env.old memory (register regs.old a1) (register regs.old a2) in
@@ -72,7 +72,7 @@ pub fn serve_read<B: Bus>(env: &mut Env, regs: &mut Regs, bus: &mut B) -> Result
 }
 
 /// Copies so many of the next bytes of the input into one page, and answers their number.
-#[tactic(auto, unfolding(crate::specs::Calls::answers), using(crate::specs::CallLaws::reading, crate::specs::CallLaws::read_bound, crate::specs::LeavingLaws::read_takes))]
+#[tactic(auto, unfolding(crate::specs::Calls::answers), using(crate::proofs::CallLaws::reading, crate::proofs::CallLaws::read_bound, crate::proofs::LeavingLaws::read_takes))]
 fn read_in_page<B: Bus>(
     env: &mut Env,
     regs: &mut Regs,
@@ -111,7 +111,7 @@ fn read_in_page<B: Bus>(
 }
 
 /// Serves a write.
-#[tactic(auto, unfolding(crate::specs::Calls::answers, crate::specs::Calls::write, crate::specs::Calls::write_pages), using(crate::specs::LeavingLaws::storing_none))]
+#[tactic(auto, unfolding(crate::specs::Calls::answers, crate::specs::Calls::write, crate::specs::Calls::write_pages), using(crate::proofs::LeavingLaws::storing_none))]
 pub fn serve_write<B: Bus>(env: &mut Env, regs: &mut Regs, bus: &mut B) -> Result<Served, ServeStop>
     ensures served { let memory = B.memory bus.old in
         let effect = write regs.old env.old memory (register regs.old a1) (register regs.old a2) in
@@ -141,7 +141,7 @@ pub fn serve_write<B: Bus>(env: &mut Env, regs: &mut Regs, bus: &mut B) -> Resul
 }
 
 /// Writes so many bytes of one page to the output, and answers their number.
-#[tactic(auto, unfolding(crate::specs::Calls::answers), using(crate::specs::CallLaws::writing, crate::specs::LeavingLaws::storing_none))]
+#[tactic(auto, unfolding(crate::specs::Calls::answers), using(crate::proofs::CallLaws::writing, crate::proofs::LeavingLaws::storing_none))]
 fn write_in_page<B: Bus>(
     env: &mut Env,
     regs: &mut Regs,

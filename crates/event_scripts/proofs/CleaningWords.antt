@@ -1,7 +1,7 @@
 -- Words that are none of the names of events on two numbers write no event.
 use Rattle.std.proofs.Common.{◌≡◌, ℕ, List, [], ◌∷◌, sym, ap, ◌∙◌}
 use Rattle.std.specs.Prelude.{codes}
-use Rattle.clock_policy.specs.AdmitLaws.{one_key}
+use Rattle.clock_policy.proofs.AdmitLaws.{one_key}
 use Rattle.clock_policy.specs.declared.key.Key.{Key}
 use Rattle.text_lines.specs.Calls.{AreNameAndNumbers}
 use Rattle.text_lines.specs.Numbers.{number_value}

@@ -1,3 +1,11 @@
+pub mod ScheduleLaws
+pub mod TurnsLaws
+pub mod OpeningLaws
+pub mod RunLaws
+pub mod StepLaws
+pub mod SettlingLaws
+pub mod PlainRunLaws
+pub mod PagesLaws
 pub mod Runs
 pub mod Turning
 pub mod PlainSteps

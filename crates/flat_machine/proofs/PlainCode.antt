@@ -21,7 +21,7 @@ use Rattle.env_calls.specs.Calls.{bad_address, no_more_harts, no_such_call, coun
 use Rattle.env_calls.specs.Step.{effect_of, effect as effect_at}
 use Rattle.env_calls.specs.Stepping.{IsEffect, Stays}
 use Rattle.flat_machine.specs.PlainRun.{left_by, plain_step, plain_run}
-use Rattle.flat_machine.specs.PlainRunLaws.{both_are, its_line}
+use Rattle.flat_machine.proofs.PlainRunLaws.{both_are, its_line}
 
 -- ---- calls
 

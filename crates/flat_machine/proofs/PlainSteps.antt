@@ -16,13 +16,13 @@ use Rattle.env_calls.specs.Effect.{Runs}
 use Rattle.env_calls.specs.Finishing.{rest_effect, RestUses}
 use Rattle.env_calls.specs.Serving.{UsesPages}
 use Rattle.env_calls.specs.Step.{effect}
-use Rattle.env_calls.specs.StepLaws.{effect_next, effect_call, effect_traps}
+use Rattle.env_calls.proofs.StepLaws.{effect_next, effect_call, effect_traps}
 use Rattle.flat_machine.specs.Process.{Process, IsWhole, hart_registers, may_step, with_hart, flat_step, flat_run}
 use Rattle.flat_machine.specs.ByTurns.{by_turns, turn_after}
-use Rattle.flat_machine.specs.RunLaws.{by_turns_none, flat_run_none, one_more_step}
+use Rattle.flat_machine.proofs.RunLaws.{by_turns_none, flat_run_none, one_more_step}
 use Rattle.flat_machine.specs.PlainRun.{plain_step, plain_run, StopsAs, StopsNext}
-use Rattle.flat_machine.specs.PlainRunLaws.{next_is, both_are, its_line, one_step}
-use Rattle.flat_machine.specs.StepLaws.{started, step_is}
+use Rattle.flat_machine.proofs.PlainRunLaws.{next_is, both_are, its_line, one_step}
+use Rattle.flat_machine.proofs.StepLaws.{started, step_is}
 use Rattle.flat_machine.proofs.Turning.{next_turn}
 
 -- the process after steps of a hart that is alone

@@ -7,7 +7,7 @@ use Rattle.flat_machine.specs.declared.schedule.Turn.{Turn}
 use Rattle.flat_machine.specs.declared.stepping.StepRefusal.{StepRefusal}
 use Rattle.flat_machine.specs.Schedule.{written_out}
 use Rattle.flat_machine.specs.Process.{Process, flat_run}
-use Rattle.flat_machine.specs.RunLaws.{flat_run_append}
+use Rattle.flat_machine.proofs.RunLaws.{flat_run_append}
 use Rattle.flat_machine.specs.Refusals.{RefusesStep, StopsAt}
 
 written_more : (turns : List Turn) (i : ℕ) (t : Turn) → i < length turns → t ≡ slice_index_or turns i t → written_out (take (i + 1) turns) ≡ written_out (take i turns) ++ replicate t.count t.hart

@@ -1,10 +1,10 @@
 -- Whose turn it is, and runs by turns put together.
 use Rattle.std.proofs.Common.{◌≡◌, ◌+◌, ℕ, true, Option, Some, None, IsSome, Result, Ok, Err, IfOk, unwrap_or, ap, ◌∙◌, sym, true≢false}
 use Rattle.env_calls.specs.Environment.{next_live}
-use Rattle.env_calls.specs.LiveLaws.{next_is_live, next_is_some}
+use Rattle.env_calls.proofs.LiveLaws.{next_is_live, next_is_some}
 use Rattle.flat_machine.specs.Process.{Process, IsWhole, is_live, flat_step}
 use Rattle.flat_machine.specs.ByTurns.{turn_after, by_turns}
-use Rattle.flat_machine.specs.RunLaws.{by_turns_none, by_turns_append, by_turns_more}
+use Rattle.flat_machine.proofs.RunLaws.{by_turns_none, by_turns_append, by_turns_more}
 use Rattle.flat_machine.specs.Refusals.{WantsMemory, WantsAt}
 
 -- ---- whose turn it is

@@ -28,7 +28,7 @@ pub fn opening_has_pages()
 {}
 
 /// Steps that harts take by turns are the flat run of the schedule of those turns.
-#[tactic(auto, using(crate::specs::RunLaws::by_turns_run))]
+#[tactic(auto, using(crate::proofs::RunLaws::by_turns_run))]
 pub fn turns_are_a_schedule()
     ensures { (n hart turn : ℕ) (before after : Process) →
         by_turns n hart before ≡ Some (turn, after) → flat_run (turns n hart before) before ≡
@@ -36,7 +36,7 @@ pub fn turns_are_a_schedule()
 {}
 
 /// A schedule takes no more instructions of a hart exactly where it has all its entries and the last of them takes none.
-#[tactic(auto, using(crate::specs::ScheduleLaws::no_room, crate::specs::ScheduleLaws::no_room_where))]
+#[tactic(auto, using(crate::proofs::ScheduleLaws::no_room, crate::proofs::ScheduleLaws::no_room_where))]
 pub fn schedule_is_full()
     ensures where_none { (turns : List Turn) (hart : ℕ) → length turns ≤ 1000000 →
         room turns hart ≡ 0 → (length turns ≡ 1000000) × (rest_in_last turns hart ≡ 0) }

@@ -2,7 +2,7 @@
 use Rattle.std.proofs.Common.{◌≡◌, ℕ, ◌+◌, List, [], ◌++◌, length, replicate, Some, refl, sym, ap, ◌∙◌, subst, append_assoc, append-nil, length-append}
 use Rattle.std.proofs.lemmas.List.{length-replicate}
 use Rattle.flat_machine.specs.Process.{Process, flat_run}
-use Rattle.flat_machine.specs.RunLaws.{flat_run_append, flat_run_none}
+use Rattle.flat_machine.proofs.RunLaws.{flat_run_append, flat_run_none}
 use Rattle.flat_machine.specs.Schedule.{written_out}
 use Rattle.flat_machine.specs.declared.schedule.Turn.{Turn}
 use Rattle.run_records.specs.Prints.{print_of}

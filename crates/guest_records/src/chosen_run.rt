@@ -85,7 +85,7 @@ fn step_turn(process: &mut FlatProcess, hart: u32, most: u32, is_cut: bool) -> u
 }
 
 /// Steps a hart so many times at most, as long as it steps, up to where it is to yield again or has started a hart. Answers how often it did.
-#[tactic(auto, using(flat_machine::specs::RunLaws::one_more_step, flat_machine::specs::RunLaws::flat_run_none))]
+#[tactic(auto, using(flat_machine::proofs::RunLaws::one_more_step, flat_machine::proofs::RunLaws::flat_run_none))]
 fn repeat_to_call(process: &mut FlatProcess, hart: u32, most: u32) -> u32
     ensures ran { flat_run (replicate result hart) process.old ≡ Some process.new }
     ensures within { result ≤ most }
@@ -110,7 +110,7 @@ fn is_call_reached(process: &mut FlatProcess, hart: u32, next: u32) -> bool
 }
 
 /// Steps a hart so many times at most, as long as it steps. Answers how often it did.
-#[tactic(auto, using(flat_machine::specs::RunLaws::one_more_step, flat_machine::specs::RunLaws::flat_run_none))]
+#[tactic(auto, using(flat_machine::proofs::RunLaws::one_more_step, flat_machine::proofs::RunLaws::flat_run_none))]
 fn repeat(process: &mut FlatProcess, hart: u32, most: u32) -> u32
     ensures ran { flat_run (replicate result hart) process.old ≡ Some process.new }
     ensures within { result ≤ most }

@@ -2,7 +2,7 @@
 use Rattle.std.proofs.Common.{◌≡◌, ℕ, ◌&&◌, Bool, true, false, Option, Some, None, IsSome, Result, Ok, Err, OnErr, is_none, is_some, option_map, unwrap_or, cond, refl, sym, ap, true≢false, ◌∙◌}
 use Rattle.flat_machine.specs.declared.end.End.{End}
 use Rattle.flat_machine.specs.Process.{Process, hart_registers, is_live, may_step, stepped, flat_step}
-use Rattle.flat_machine.specs.StepLaws.{not_ended}
+use Rattle.flat_machine.proofs.StepLaws.{not_ended}
 use Rattle.guest_strings.specs.References.{after_step}
 
 stays : (hart : ℕ) (process left : Process) → may_step hart process ≡ false → left ≡ process → left ≡ after_step hart process

@@ -1,6 +1,6 @@
 -- Where the pages of the processes are counted, what is found is what an audit looks for.
 use Rattle.std.specs.Prelude.{ℕ, List, map}
-use Rattle.machine_sides.specs.AuditLaws.{CountedSo, all_sound, sound_all}
+use Rattle.machine_sides.proofs.AuditLaws.{CountedSo, all_sound, sound_all}
 use Rattle.paged_memory.specs.declared.counting.HeldPages.{HeldPages}
 use Rattle.held_machine.specs.Audit.{HoldsAll, IsSound, space_in}
 use Rattle.held_machine.specs.DeskValue.{DeskValue}

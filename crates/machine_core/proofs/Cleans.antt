@@ -4,17 +4,17 @@ use Rattle.std.specs.Prelude.{slice_set, OnOk, OnErr}
 use Rattle.std.proofs.lemmas.List.{length-set}
 use Rattle.clock_policy.specs.declared.key.Key.{Key}
 use Rattle.page_store.specs.JobValue.{JobValue}
-use Rattle.paged_memory.specs.AlikeLaws.{CountsAlike, same_memory}
+use Rattle.paged_memory.proofs.AlikeLaws.{CountsAlike, same_memory}
 use Rattle.paged_memory.specs.Cleaning.{refused_of}
 use Rattle.swap_slots.specs.PoolValue.{PoolValue}
 use Rattle.machine_core.specs.CleaningEvents.{clean_barred, clean_reason, clean_refusal, clean_reply, CleansAt, CleansOnce}
 use Rattle.machine_core.specs.Machine.{CoreValue, IsMachine}
 use Rattle.machine_core.specs.MachineRun.{of_process, RefusesEvent}
-use Rattle.machine_core.specs.TotalLaws.{set_back}
+use Rattle.machine_core.proofs.TotalLaws.{set_back}
 use Rattle.machine_core.specs.declared.event.Reply.{Reply}
 use Rattle.machine_core.proofs.Cores.{alike_machine, lent_back}
 use Rattle.machine_sides.specs.Cleaning.{StartsCleaning}
-use Rattle.machine_sides.specs.CleaningLaws.{starts_alike}
+use Rattle.machine_sides.proofs.CleaningLaws.{starts_alike}
 use Rattle.machine_sides.specs.Sides.{PagerSideValue}
 use Rattle.machine_sides.specs.declared.cleaning.CleanBar.{CleanBar}
 use Rattle.space_core.specs.StandsFor.{SpaceValue}

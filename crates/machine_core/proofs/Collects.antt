@@ -6,12 +6,12 @@ use Rattle.std.proofs.lemmas.List.Elements.{All-nil, All-cons, All-append}
 use Rattle.clock_policy.specs.declared.key.Key.{Key}
 use Rattle.clock_policy.specs.declared.refusal.Refusal.{Refusal}
 use Rattle.clock_policy.specs.declared.refusal.Refusal.TheVariants as list
-use Rattle.clock_policy.specs.AdmitLaws.{one_key}
+use Rattle.clock_policy.proofs.AdmitLaws.{one_key}
 use Rattle.clock_policy.specs.Lawful.{Lawful}
 use Rattle.page_store.specs.JobValue.{JobValue}
-use Rattle.paged_memory.specs.CopiesToldLaws.{leaves_itself}
+use Rattle.paged_memory.proofs.CopiesToldLaws.{leaves_itself}
 use Rattle.paged_memory.specs.Stages.{is_leaving_stage, is_saving_stage}
-use Rattle.paged_memory.specs.StagesLaws.{leaving_framed, leaving_not_resident, leaving_not_saving}
+use Rattle.paged_memory.proofs.StagesLaws.{leaving_framed, leaving_not_resident, leaving_not_saving}
 use Rattle.paged_memory.specs.Whole.{stage_in, frame_in}
 use Rattle.space_core.specs.StandsFor.{SpaceValue}
 use Rattle.swap_slots.specs.PoolValue.{PoolValue}
@@ -21,19 +21,19 @@ use Rattle.machine_core.specs.declared.error.EventRefusal.TheVariants as refusal
 use Rattle.machine_core.specs.declared.event.Reply.{Reply}
 use Rattle.machine_sides.specs.Collecting.{is_leaving_at, Looks, IsDropped, IsCopied, LacksAndReturns, LacksAndLeaves}
 use Rattle.machine_core.specs.CollectEvent.{leaving_reason, collect_refusal, CollectsTo, not_yet, freed, dirty, no_slot, no_memory, CollectsOnce, LooksAt, IsOwn, jobs_after, looked_reply}
-use Rattle.machine_sides.specs.CollectLaws.{dropped_together, dropped_rest, copied_together, copied_savings, copied_slots, copied_now}
-use Rattle.machine_sides.specs.LookLaws.{same_sides}
+use Rattle.machine_sides.proofs.CollectLaws.{dropped_together, dropped_rest, copied_together, copied_savings, copied_slots, copied_now}
+use Rattle.machine_sides.proofs.LookLaws.{same_sides}
 use Rattle.machine_core.specs.Machine.{CoreValue, IsMachine, IsSaveOut, IsCopyOut, jobs_where, total}
 use Rattle.machine_core.specs.MachineRun.{of_process}
-use Rattle.machine_sides.specs.ReturnLaws.{returned_rest, listed_frames, back_together}
+use Rattle.machine_sides.proofs.ReturnLaws.{returned_rest, listed_frames, back_together}
 use Rattle.machine_sides.specs.Sides.{PagerSideValue}
-use Rattle.machine_sides.specs.StageLaws.{stage_passes}
-use Rattle.machine_sides.specs.TogetherLaws.{LeavesRest}
+use Rattle.machine_sides.proofs.StageLaws.{stage_passes}
+use Rattle.machine_sides.proofs.TogetherLaws.{LeavesRest}
 use Rattle.machine_sides.specs.Together.{Together, key_of}
 use Rattle.machine_core.proofs.Cores.{lent_back}
 use Rattle.machine_core.proofs.Counted.{HoldsFrame, frame_missing, job_fits, takes_back}
 use Rattle.machine_core.proofs.Kept.{Moves, moved_machine, out_stays, copies_stay, copies_even}
-use Rattle.machine_core.specs.TotalLaws.{get_set_same}
+use Rattle.machine_core.proofs.TotalLaws.{get_set_same}
 
 -- a refusal that can be no other is want of memory
 only_memory : (reason : Refusal) → ((reason ≡ list.NoMemory → ⊥) → ⊥) → reason ≡ list.NoMemory

@@ -6,14 +6,14 @@ use Rattle.std.proofs.lemmas.List.{length-set}
 use Rattle.std.proofs.lemmas.List.Elements.{All-nil, All-cons, All-head, All-tail}
 use Rattle.std.proofs.lemmas.List.Sorted.{All-permutation, length_permutation}
 use borrow.Author.Tests.{eqb-true}
-use Rattle.clock_policy.specs.AdmitLaws.{one_key}
+use Rattle.clock_policy.proofs.AdmitLaws.{one_key}
 use Rattle.clock_policy.specs.Residents.{is_key}
 use Rattle.clock_policy.specs.declared.key.Key.{Key}
 use Rattle.page_store.specs.JobValue.{JobValue, SavedValue}
 use Rattle.page_store.specs.declared.answer.Cleaned.{Cleaned}
 use Rattle.page_store.specs.declared.answer.Cleaned.TheVariants as end
-use Rattle.paged_memory.specs.CleanBarLaws.{copy_there, stands_back}
-use Rattle.paged_memory.specs.CleanLaws.{HasCleaned, clean_comes_to}
+use Rattle.paged_memory.proofs.CleanBarLaws.{copy_there, stands_back}
+use Rattle.paged_memory.proofs.CleanLaws.{HasCleaned, clean_comes_to}
 use Rattle.paged_memory.specs.Coheres.{HoldsIn}
 use Rattle.paged_memory.specs.Copies.{CopyStands, is_copied_in}
 use Rattle.space_core.specs.StandsFor.{SpaceValue}
@@ -22,14 +22,14 @@ use Rattle.machine_core.specs.CleaningEvents.{cleaned_refusal, unless_out, Clean
 use Rattle.machine_core.specs.Machine.{CoreValue, IsMachine, IsCopyOut, total, jobs_where}
 use Rattle.machine_core.specs.MachineRun.{of_process}
 use Rattle.machine_core.specs.SavingOut.{is_save_of, MakesSave}
-use Rattle.machine_core.specs.TotalLaws.{total_set, got_set, get_set_same, get_set_other}
+use Rattle.machine_core.proofs.TotalLaws.{total_set, got_set, get_set_same, get_set_other}
 use Rattle.machine_core.specs.declared.event.Reply.{Reply}
 use Rattle.machine_core.proofs.Cores.{lent_back}
 use Rattle.machine_core.proofs.Finding.{total_some}
 use Rattle.machine_core.proofs.JobsOut.{both_true, same_key, total_permuted}
 use Rattle.machine_core.proofs.Kept.{moved_machine, out_stays}
 use Rattle.machine_sides.specs.Cleaning.{TakesCopyBack}
-use Rattle.machine_sides.specs.CleaningLaws.{in_place_together, in_place_savings, back_copies}
+use Rattle.machine_sides.proofs.CleaningLaws.{in_place_together, in_place_savings, back_copies}
 use Rattle.machine_sides.specs.Sides.{PagerSideValue}
 use Rattle.machine_sides.specs.Together.{copies_in, key_of}
 

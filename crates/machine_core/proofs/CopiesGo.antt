@@ -3,26 +3,26 @@ use Rattle.std.proofs.Common.{◌≡◌, ◌⊎◌, ℕ, ◌+◌, ◌<◌, ◌�
 use Rattle.std.specs.Prelude.{slice_set, All, IfOk, if◌then◌else◌}
 use Rattle.std.proofs.lemmas.List.{length-set}
 use Rattle.std.proofs.lemmas.List.Elements.{All-nil, All-cons, All-append}
-use Rattle.clock_policy.specs.AdmitLaws.{one_key}
+use Rattle.clock_policy.proofs.AdmitLaws.{one_key}
 use Rattle.clock_policy.specs.declared.key.Key.{Key}
 use Rattle.page_store.specs.JobValue.{JobValue}
 use Rattle.page_store.specs.declared.answer.CleanCopy.TheVariants as answered
-use Rattle.paged_memory.specs.AlikeLaws.{CountsAlike}
-use Rattle.paged_memory.specs.CleanBarLaws.{goes_keeps}
+use Rattle.paged_memory.proofs.AlikeLaws.{CountsAlike}
+use Rattle.paged_memory.proofs.CleanBarLaws.{goes_keeps}
 use Rattle.paged_memory.specs.Cleaning.{refused_of, is_cleaning_in}
 use Rattle.paged_memory.specs.Copies.{CopyStands}
 use Rattle.swap_slots.specs.PoolValue.{PoolValue}
 use Rattle.machine_core.specs.CleaningEvents.{copy_barred, copy_reason, copy_refusal, copy_reply, copies_after, CopiesAt, CopiesOnce, CopiesTo, stored, not_yet, no_slot, copied, IfCopies}
 use Rattle.machine_core.specs.Machine.{CoreValue, IsMachine, IsCopyOut, jobs_where}
 use Rattle.machine_core.specs.MachineRun.{of_process, RefusesEvent}
-use Rattle.machine_core.specs.TotalLaws.{set_back, get_set_same}
+use Rattle.machine_core.proofs.TotalLaws.{set_back, get_set_same}
 use Rattle.machine_core.specs.declared.event.Reply.{Reply}
 use Rattle.machine_core.proofs.Collects.{more_jobs}
 use Rattle.machine_core.proofs.Cores.{alike_machine, lent_back}
 use Rattle.machine_core.proofs.Counted.{copy_fits}
 use Rattle.machine_core.proofs.Kept.{Moves, moved_machine, out_stays, copies_stay}
 use Rattle.machine_sides.specs.Cleaning.{PageCopied, copy_bars, is_cleaning_at}
-use Rattle.machine_sides.specs.CleaningLaws.{in_place_together, in_place_savings, copied_to, has_copied, gone_copies, gone_slots}
+use Rattle.machine_sides.proofs.CleaningLaws.{in_place_together, in_place_savings, copied_to, has_copied, gone_copies, gone_slots}
 use Rattle.machine_sides.specs.Sides.{PagerSideValue}
 use Rattle.machine_sides.specs.Together.{key_of}
 use Rattle.machine_sides.specs.declared.cleaning.CopyBar.{CopyBar}

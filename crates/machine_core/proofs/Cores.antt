@@ -6,15 +6,15 @@ use Rattle.std.proofs.lemmas.List.{length-set, take_all, drop_all, append-nil}
 use Rattle.clock_policy.specs.declared.key.Key.{Key}
 use Rattle.clock_policy.specs.declared.answer.Bit.{Bit}
 use Rattle.clock_policy.specs.declared.answer.Verdict.{Verdict}
-use Rattle.clock_policy.specs.ClockLaws.{answered_lawful}
+use Rattle.clock_policy.proofs.ClockLaws.{answered_lawful}
 use Rattle.clock_policy.specs.ClockPro.{question_of}
-use Rattle.clock_policy.specs.KeptLaws.{answered_frames}
+use Rattle.clock_policy.proofs.KeptLaws.{answered_frames}
 use Rattle.clock_policy.specs.Lawful.{Lawful}
 use Rattle.clock_policy.specs.Residents.{is_gone}
 use Rattle.pager_core.specs.Pager.{PagerState, pager_answered}
 use Rattle.flat_machine.specs.declared.end.End.{End}
 use Rattle.flat_machine.specs.declared.end.KillCause.{KillCause}
-use Rattle.paged_memory.specs.AlikeLaws.{CountsAlike, same_memory, kept_alike, noticed_alike, emptied_alike}
+use Rattle.paged_memory.proofs.AlikeLaws.{CountsAlike, same_memory, kept_alike, noticed_alike, emptied_alike}
 use Rattle.paged_memory.specs.Paged.{PagedValue}
 use Rattle.space_core.specs.Caches.{if_killed}
 use Rattle.space_core.specs.declared.progress.SliceStop.{SliceStop}
@@ -31,8 +31,8 @@ use Rattle.machine_core.specs.MachineRun.{ChangesOne, of_process, used_bit, Swee
 use Rattle.machine_sides.specs.ProcessCalls.{StepsOnce, TakesNotices, IsKilled}
 use Rattle.machine_sides.specs.Sides.{PagerSideValue}
 use Rattle.machine_sides.specs.Sweeping.{AnswersQuestion, Sweeps}
-use Rattle.machine_sides.specs.SweepLaws.{answers_together, answers_rest}
-use Rattle.machine_sides.specs.TogetherLaws.{alike_residents, alike_frames, alike_rest}
+use Rattle.machine_sides.proofs.SweepLaws.{answers_together, answers_rest}
+use Rattle.machine_sides.proofs.TogetherLaws.{alike_residents, alike_frames, alike_rest}
 use Rattle.machine_core.specs.declared.error.EventRefusal.{EventRefusal}
 use Rattle.machine_core.proofs.Finding.{Asked, HasResident, asked_process, bit_there}
 use Rattle.machine_core.proofs.Kept.{moved_machine, out_stays, copies_stay, copies_even}

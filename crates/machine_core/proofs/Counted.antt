@@ -1,13 +1,13 @@
 -- What the machine's counts tell of a page that holds a frame and is not resident: a frame is missing, a save has room, and the list takes the page back.
 use Rattle.std.proofs.Common.{◌≡◌, ℕ, zero, suc, ◌+◌, ◌≤◌, ◌<◌, ◌^◌, true, false, cond, List, [], ◌∷◌, length, Some, Err, slice_get, inl, inr, refl, sym, ap, ◌∙◌, arith}
 use Rattle.clock_policy.specs.declared.refusal.Refusal.{Refusal}
-use Rattle.clock_policy.specs.AdmitLaws.{restored_barred, key_residents}
+use Rattle.clock_policy.proofs.AdmitLaws.{restored_barred, key_residents}
 use Rattle.clock_policy.specs.ClockPro.{restored}
 use Rattle.clock_policy.specs.Residents.{residents, is_key, has_resident}
 use Rattle.frame_pool.specs.FrameValue.{FrameValue}
 use Rattle.page_store.specs.JobValue.{JobValue}
-use Rattle.paged_memory.specs.AmongLaws.{residents_framed as among_framed, savings_framed as saved_framed, one_resident_less, one_saving_less}
-use Rattle.paged_memory.specs.CleanBarLaws.{copies_framed as copied_framed, one_copy_less}
+use Rattle.paged_memory.proofs.AmongLaws.{residents_framed as among_framed, savings_framed as saved_framed, one_resident_less, one_saving_less}
+use Rattle.paged_memory.proofs.CleanBarLaws.{copies_framed as copied_framed, one_copy_less}
 use Rattle.paged_memory.specs.Cleaning.{is_cleaning_in}
 use Rattle.paged_memory.specs.Stages.{is_resident_stage, is_saving_stage, has_frame_stage}
 use Rattle.paged_memory.specs.Whole.{stage_in}

@@ -3,12 +3,12 @@ use Rattle.std.proofs.Common.{◌≡◌, ℕ, zero, suc, ◌≤◌, ◌<◌, ◌
 use Rattle.std.proofs.lemmas.Option.{slice_get_within}
 use borrow.Author.Tests.{eqb-true, lt-ltb}
 use Rattle.clock_policy.specs.declared.key.Key.{Key}
-use Rattle.clock_policy.specs.AdmitLaws.{asked_once}
+use Rattle.clock_policy.proofs.AdmitLaws.{asked_once}
 use Rattle.clock_policy.specs.ClockPro.{question_of}
 use Rattle.clock_policy.specs.Residents.{is_key, is_gone}
-use Rattle.paged_memory.specs.AmongLaws.{resident_there}
+use Rattle.paged_memory.proofs.AmongLaws.{resident_there}
 use Rattle.paged_memory.specs.Stages.{is_resident_stage}
-use Rattle.paged_memory.specs.StagesLaws.{resident_accessed}
+use Rattle.paged_memory.proofs.StagesLaws.{resident_accessed}
 use Rattle.paged_memory.specs.Whole.{stage_in, accessed_in}
 use Rattle.clock_policy.specs.declared.answer.Bit.TheVariants.{Gone}
 use Rattle.space_core.specs.StandsFor.{SpaceValue}

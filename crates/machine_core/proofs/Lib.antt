@@ -1,3 +1,9 @@
+pub mod EventOrderLaws
+pub mod InvisibleLaws
+pub mod LeavingOrderLaws
+pub mod OrderLaws
+pub mod TotalLaws
+pub mod CleaningOrderLaws
 pub mod Cleans
 pub mod Collects
 pub mod CopiesBack

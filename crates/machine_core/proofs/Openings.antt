@@ -7,7 +7,7 @@ use Rattle.std.proofs.lemmas.List.{map-append}
 use Rattle.std.proofs.lemmas.List.Elements.{All-nil}
 use Rattle.std.proofs.lemmas.Option.{slice_get_within}
 use Rattle.clock_policy.specs.declared.key.Key.{Key}
-use Rattle.clock_policy.specs.ClockLaws.{opening_lawful}
+use Rattle.clock_policy.proofs.ClockLaws.{opening_lawful}
 use Rattle.clock_policy.specs.ClockPro.{opening_state}
 use Rattle.clock_policy.specs.Lawful.{Lawful}
 use Rattle.clock_policy.specs.Residents.{residents}
@@ -16,7 +16,7 @@ use Rattle.frame_pool.specs.FrameValue.{zero_frame}
 use Rattle.machine_limits.specs.Limits.{most_processes}
 use Rattle.page_memory.specs.Pages.{Page}
 use Rattle.page_store.specs.JobValue.{JobValue}
-use Rattle.paged_memory.specs.AmongLaws.{fresh_residents, fresh_savings, fresh_copies, fresh_frames, fresh_slots}
+use Rattle.paged_memory.proofs.AmongLaws.{fresh_residents, fresh_savings, fresh_copies, fresh_frames, fresh_slots}
 use Rattle.paged_memory.specs.Whole.{slots_within}
 use Rattle.pager_core.specs.Pager.{full_pager}
 use Rattle.swap_slots.specs.PoolValue.{PoolValue}

@@ -10,8 +10,8 @@ use Rattle.space_core.specs.StandsFor.{SpaceValue}
 use Rattle.swap_slots.specs.PoolValue.{PoolValue}
 use Rattle.paged_memory.specs.Moving.{RefusesIn}
 use Rattle.paged_memory.specs.Stages.{is_absent_stage, is_resident_stage}
-use Rattle.paged_memory.specs.StagesLaws.{resident_not_absent}
-use Rattle.paged_memory.specs.StillLaws.{refused_still, refused_absent}
+use Rattle.paged_memory.proofs.StagesLaws.{resident_not_absent}
+use Rattle.paged_memory.proofs.StillLaws.{refused_still, refused_absent}
 use Rattle.paged_memory.specs.Whole.{stage_in}
 use Rattle.machine_sides.specs.Admitting.{is_resident_at, is_absent_at, bars, told_by, taken_back}
 use Rattle.machine_sides.specs.declared.admission.NotAdmitted.{NotAdmitted}
@@ -24,7 +24,7 @@ use Rattle.machine_core.specs.Machine.{CoreValue, IsMachine}
 use Rattle.machine_core.specs.MachineRun.{of_process, RefusesEvent}
 use Rattle.machine_core.specs.PagingIn.{admit_reason, ComesIn, IsTakenBack, GoesBack, PagesIn, PagesInAt, PagesInOnce, page_in_reason, page_in_refusal}
 use Rattle.machine_sides.specs.Sides.{PagerSideValue}
-use Rattle.machine_sides.specs.StageLaws.{stage_below}
+use Rattle.machine_sides.proofs.StageLaws.{stage_below}
 use Rattle.machine_core.proofs.Counted.{all_frames, all_numbers}
 use Rattle.machine_core.proofs.Cores.{lent_back}
 use Rattle.machine_core.proofs.PageInReasons.{unbarred, first_reason, bars_are, reason_is}

@@ -9,7 +9,7 @@ use Rattle.clock_policy.specs.declared.entry.EntryKind.{EntryKind}
 use Rattle.clock_policy.specs.declared.entry.EntryKind.TheVariants.{Hot, Test, Cold, Shadow}
 use Rattle.clock_policy.specs.declared.key.Key.{Key}
 use Rattle.clock_policy.specs.declared.refusal.Refusal.{Refusal}
-use Rattle.clock_policy.specs.AdmitLaws.{admitted_barred, key_residents, full_is}
+use Rattle.clock_policy.proofs.AdmitLaws.{admitted_barred, key_residents, full_is}
 use Rattle.clock_policy.specs.ClockPro.{ClockState, is_full, kind_of, admitted}
 use Rattle.clock_policy.specs.Residents.{residents, is_key, has_resident, found_in_frame}
 use Rattle.frame_pool.specs.FrameValue.{FrameValue}
@@ -18,7 +18,7 @@ use Rattle.pager_core.specs.declared.refusal.AdmitRefusal.TheVariants as pager_r
 use Rattle.pager_core.specs.Pager.{PagerState, resident_kind, is_listed_resident, none_free, has_no_frame, admission_refused}
 use Rattle.space_core.specs.StandsFor.{SpaceValue}
 use Rattle.paged_memory.specs.Stages.{is_absent_stage}
-use Rattle.paged_memory.specs.StagesLaws.{resident_not_absent}
+use Rattle.paged_memory.proofs.StagesLaws.{resident_not_absent}
 use Rattle.paged_memory.specs.Whole.{stage_in}
 use Rattle.machine_sides.specs.Admitting.{is_absent_at, page_bars, bars, bars_from, pager_refusal}
 use Rattle.machine_sides.specs.declared.admission.NotAdmitted.{NotAdmitted}
@@ -26,7 +26,7 @@ use Rattle.machine_sides.specs.declared.admission.NotAdmitted.TheVariants.{Ended
 use Rattle.machine_core.specs.declared.error.EventRefusal.TheVariants as refusal
 use Rattle.machine_core.specs.Machine.{CoreValue, IsMachine}
 use Rattle.machine_core.specs.PagingIn.{admit_reason, page_in_reason}
-use Rattle.machine_sides.specs.StageLaws.{stage_below, stage_passes}
+use Rattle.machine_sides.proofs.StageLaws.{stage_below, stage_passes}
 use Rattle.machine_sides.specs.Together.{residents_in, frames_in}
 use Rattle.machine_core.proofs.Counted.{fewer_total, all_frames, all_numbers, residents_framed}
 use Rattle.machine_core.proofs.Finding.{HasResident, total_some, has_resident as resident_of}

@@ -3,17 +3,17 @@ use Rattle.std.proofs.Common.{◌≡◌, ℕ, ◌+◌, ◌≤◌, ◌<◌, ◌^�
 use Rattle.std.specs.Prelude.{slice_set}
 use Rattle.std.proofs.lemmas.Bool.Decides.{nat_tests}
 use Rattle.clock_policy.specs.declared.key.Key.{Key}
-use Rattle.clock_policy.specs.AdmitLaws.{one_key, admitted_residents, withdrawn_residents, key_residents}
-use Rattle.clock_policy.specs.ClockLaws.{withdrawn_lawful}
+use Rattle.clock_policy.proofs.AdmitLaws.{one_key, admitted_residents, withdrawn_residents, key_residents}
+use Rattle.clock_policy.proofs.ClockLaws.{withdrawn_lawful}
 use Rattle.clock_policy.specs.ClockPro.{ClockState, admitted, withdrawn}
-use Rattle.clock_policy.specs.KeptLaws.{admitted_frames, withdrawn_frames}
+use Rattle.clock_policy.proofs.KeptLaws.{admitted_frames, withdrawn_frames}
 use Rattle.clock_policy.specs.Lawful.{Lawful}
 use Rattle.clock_policy.specs.Residents.{residents, is_key, has_resident}
 use Rattle.frame_pool.specs.FrameValue.{FrameValue}
 use Rattle.pager_core.specs.Pager.{admitted_with}
-use Rattle.paged_memory.specs.AlikeLaws.{CountsAlike}
-use Rattle.paged_memory.specs.ComeLaws.{HasCome, come, refused_alike}
-use Rattle.paged_memory.specs.StillLaws.{refused_number}
+use Rattle.paged_memory.proofs.AlikeLaws.{CountsAlike}
+use Rattle.paged_memory.proofs.ComeLaws.{HasCome, come, refused_alike}
+use Rattle.paged_memory.proofs.StillLaws.{refused_number}
 use Rattle.space_core.specs.StandsFor.{SpaceValue}
 use Rattle.machine_sides.specs.Admitting.{AdmissionValue, Admits}
 use Rattle.machine_core.specs.declared.event.Reply.{Reply}
@@ -21,7 +21,7 @@ use Rattle.machine_core.specs.Machine.{CoreValue, IsMachine}
 use Rattle.machine_core.specs.PagingIn.{ComesIn, GoesBack}
 use Rattle.machine_sides.specs.Sides.{PagerSideValue}
 use Rattle.machine_sides.specs.Together.{frames_where, residents_in, savings_in, frames_in, key_of}
-use Rattle.machine_sides.specs.TogetherLaws.{residents_more, savings_same, alike_residents, alike_frames, alike_rest}
+use Rattle.machine_sides.proofs.TogetherLaws.{residents_more, savings_same, alike_residents, alike_frames, alike_rest}
 use Rattle.machine_core.proofs.Kept.{Moves, moved_machine, out_stays, copies_stay, copies_even}
 use Rattle.machine_core.proofs.PageInReasons.{Unbarred, unbarred}
 

@@ -4,14 +4,14 @@ use Rattle.std.specs.Prelude.{slice_set}
 use Rattle.std.proofs.lemmas.Bool.Decides.{eqb_tells}
 use Rattle.std.proofs.lemmas.List.{length-append, length-set}
 use Rattle.clock_policy.specs.declared.key.Key.{Key}
-use Rattle.clock_policy.specs.ClockLaws.{purged_lawful}
+use Rattle.clock_policy.proofs.ClockLaws.{purged_lawful}
 use Rattle.clock_policy.specs.ClockPro.{purged}
-use Rattle.clock_policy.specs.KeptLaws.{purged_frames}
+use Rattle.clock_policy.proofs.KeptLaws.{purged_frames}
 use Rattle.clock_policy.specs.Lawful.{Lawful}
 use Rattle.clock_policy.specs.Residents.{residents}
 use Rattle.frame_pool.specs.FrameValue.{FrameValue}
 use Rattle.page_store.specs.JobValue.{JobValue}
-use Rattle.paged_memory.specs.AmongLaws.{no_residents}
+use Rattle.paged_memory.proofs.AmongLaws.{no_residents}
 use Rattle.paged_memory.specs.Whole.{residents_among, slots_within}
 use Rattle.pager_core.specs.Pager.{PagerState}
 use Rattle.space_core.specs.StandsFor.{SpaceValue}
@@ -24,14 +24,14 @@ use Rattle.machine_sides.specs.declared.purging.Purging.TheVariants.{Done, Refus
 use Rattle.machine_core.specs.Machine.{CoreValue, IsMachine, total}
 use Rattle.machine_core.specs.MachineRun.{of_process}
 use Rattle.machine_core.specs.PurgeEvent.{purge_reason, purge_refusal, PurgesAt, PurgesOnce, IsDone}
-use Rattle.machine_sides.specs.PurgeLaws.{given_savings, given_stays, given_copies, purged_together, purged_pool}
+use Rattle.machine_sides.proofs.PurgeLaws.{given_savings, given_stays, given_copies, purged_together, purged_pool}
 use Rattle.machine_sides.specs.Purging.{purge_bars, Purges, PurgesAll, StopsPurging}
 use Rattle.machine_sides.specs.Sides.{PagerSideValue}
 use Rattle.machine_sides.specs.Together.{residents_in, frames_in, key_of}
 use Rattle.machine_core.proofs.Cores.{lent_back}
 use Rattle.machine_core.proofs.Counted.{all_frames, all_numbers}
 use Rattle.machine_core.proofs.Kept.{moved_machine, out_stays, copies_stay, copies_even}
-use Rattle.machine_core.specs.TotalLaws.{total_at}
+use Rattle.machine_core.proofs.TotalLaws.{total_at}
 
 -- ---- a sum of which one place alone counts
 

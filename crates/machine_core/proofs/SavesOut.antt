@@ -8,15 +8,15 @@ use Rattle.std.proofs.lemmas.List.Sorted.{All-permutation, length_permutation}
 use Rattle.clock_policy.specs.declared.key.Key.{Key}
 use Rattle.clock_policy.specs.declared.refusal.Refusal.{Refusal}
 use Rattle.clock_policy.specs.declared.refusal.Refusal.TheVariants.{AlreadyResident, NoQuestion, NotThere, Full, NoMemory}
-use Rattle.clock_policy.specs.AdmitLaws.{one_key}
+use Rattle.clock_policy.proofs.AdmitLaws.{one_key}
 use Rattle.clock_policy.specs.Residents.{is_key}
 use Rattle.frame_pool.specs.FrameValue.{FrameValue}
 use Rattle.page_store.specs.JobValue.{JobValue, SavedValue}
-use Rattle.paged_memory.specs.AlikeLaws.{same_stage, same_frame}
+use Rattle.paged_memory.proofs.AlikeLaws.{same_stage, same_frame}
 use Rattle.paged_memory.specs.Moving.{IsOutOf}
-use Rattle.paged_memory.specs.SaveLaws.{leaving_again, out_of}
+use Rattle.paged_memory.proofs.SaveLaws.{leaving_again, out_of}
 use Rattle.paged_memory.specs.Stages.{is_saving_stage}
-use Rattle.paged_memory.specs.StagesLaws.{saving_framed, saving_not_resident}
+use Rattle.paged_memory.proofs.StagesLaws.{saving_framed, saving_not_resident}
 use Rattle.paged_memory.specs.Whole.{stage_in, frame_in}
 use Rattle.machine_core.specs.declared.event.Reply.{Reply}
 use Rattle.machine_sides.specs.declared.saving_back.SaveFailure.{SaveFailure}
@@ -26,7 +26,7 @@ use Rattle.machine_sides.specs.declared.saving_back.SaveOutcome.TheVariants.{Fre
 use Rattle.machine_core.specs.Machine.{CoreValue, IsMachine, IsSaveOut, total, jobs_where}
 use Rattle.machine_sides.specs.Returning.{DoesNotList}
 use Rattle.machine_sides.specs.SavingBack.{ShowsFailure, EndsSave, Settles, LeavesAgain, FailsAndReturns, FailsAndLeaves}
-use Rattle.machine_sides.specs.SavingLaws.{SaveEnds, freed_ends, returned_ends, left_ends}
+use Rattle.machine_sides.proofs.SavingLaws.{SaveEnds, freed_ends, returned_ends, left_ends}
 use Rattle.machine_core.specs.SavingOut.{saved_refusal, is_save_of, MakesSave, EndsSaving, SavesOnce, SavedAt, IsOwn, RepliesTo}
 use Rattle.machine_sides.specs.Sides.{PagerSideValue}
 use Rattle.machine_sides.specs.Together.{savings_in, key_of}
@@ -35,7 +35,7 @@ use Rattle.machine_core.proofs.Cores.{lent_back}
 use Rattle.machine_core.proofs.Counted.{HoldsFrame, frame_missing, takes_back}
 use Rattle.machine_core.proofs.Finding.{total_some}
 use Rattle.machine_core.proofs.Kept.{moved_machine, copies_stay, copies_even}
-use Rattle.machine_core.specs.TotalLaws.{total_set, got_set, get_set_same, get_set_other}
+use Rattle.machine_core.proofs.TotalLaws.{total_set, got_set, get_set_same, get_set_other}
 use Rattle.machine_core.proofs.JobsOut.{same_key, total_permuted}
 use Rattle.machine_core.proofs.SavingPages.{saving_counted}
 use Rattle.space_core.specs.StandsFor.{SpaceValue}

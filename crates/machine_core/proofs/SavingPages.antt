@@ -4,7 +4,7 @@ use Rattle.std.specs.Prelude.{if◌then◌else◌}
 use borrow.Author.Tests.{eqb-true}
 use Rattle.clock_policy.specs.declared.key.Key.{Key}
 use Rattle.clock_policy.specs.Residents.{is_key}
-use Rattle.paged_memory.specs.AmongLaws.{some_saving, saving_there}
+use Rattle.paged_memory.proofs.AmongLaws.{some_saving, saving_there}
 use Rattle.space_core.specs.StandsFor.{SpaceValue}
 use Rattle.machine_core.specs.declared.error.EventRefusal.TheVariants as refusal
 use Rattle.machine_core.specs.Machine.{CoreValue, IsMachine}
@@ -12,10 +12,10 @@ use Rattle.machine_core.specs.MachineRun.{of_process}
 use Rattle.paged_memory.specs.Stages.{is_saving_stage}
 use Rattle.paged_memory.specs.Whole.{stage_in}
 use Rattle.machine_sides.specs.SavingBack.{is_saving_at}
-use Rattle.machine_sides.specs.StageLaws.{stage_passes}
+use Rattle.machine_sides.proofs.StageLaws.{stage_passes}
 use Rattle.machine_core.specs.SavingOut.{saving_reason, saved_refusal, is_save_of}
 use Rattle.machine_sides.specs.Together.{savings_in, key_of}
-use Rattle.machine_core.specs.TotalLaws.{total_at}
+use Rattle.machine_core.proofs.TotalLaws.{total_at}
 use Rattle.machine_core.proofs.JobsOut.{both_true, same_key, none_found}
 
 module _ {S : Type 0} where

@@ -3,7 +3,7 @@ use Rattle.std.proofs.Common.{◌≡◌, ℕ, zero, suc, ◌&&◌, Bool, true, f
 use Rattle.std.specs.Prelude.{slice_set, slice_index_or, replicate, option_map, take, drop, length, is_some, is_none, if◌then◌else◌}
 use Rattle.flat_machine.specs.declared.end.End.{End}
 use Rattle.machine_core.proofs.Cores.{alike_machine, step_alike, lent_back}
-use Rattle.machine_core.specs.TotalLaws.{got_set, get_set_same}
+use Rattle.machine_core.proofs.TotalLaws.{got_set, get_set_same}
 use Rattle.machine_core.specs.Applying.{Applies, Runs}
 use Rattle.machine_core.specs.ApplyingLaws.{runs_none, runs_more}
 use Rattle.machine_core.specs.Coherent.{IsCoherent, EachCoherent}

@@ -25,7 +25,7 @@ impl<L: Ledger, S: SwapSlot, C: Clock> Core<L, S, C> {
 
     /// What an event does: it is refused, and then nothing has changed but for what want of memory leaves, or it is served.
     /// Paging stays invisible.
-    #[tactic(auto, using(crate::specs::InvisibleLaws::event_invisible))]
+    #[tactic(auto, using(crate::proofs::InvisibleLaws::event_invisible))]
     pub fn apply(&mut self, event: Event) -> Reply
         ensures applies { Applies S.content S.honest S.failures event self.old self.new result }
         ensures invisible { IsInvisible S.content S.honest event result self.old self.new }

@@ -7,17 +7,17 @@ use Rattle.clock_policy.specs.declared.answer.Bit.{Bit}
 use Rattle.clock_policy.specs.declared.answer.Bit.TheVariants.{Gone}
 use Rattle.clock_policy.specs.declared.answer.Verdict.{Verdict}
 use Rattle.clock_policy.specs.declared.answer.Verdict.TheVariants.{GoOn, Victim}
-use Rattle.clock_policy.specs.AdmitLaws.{one_key, is_key_self, asked_once, admitted_residents, withdrawn_residents, purged_residents, key_residents}
+use Rattle.clock_policy.proofs.AdmitLaws.{one_key, is_key_self, asked_once, admitted_residents, withdrawn_residents, purged_residents, key_residents}
 use Rattle.clock_policy.specs.ClockPro.{withdrawn, admitted, answered}
 use Rattle.clock_policy.specs.Lawful.{Lawful}
-use Rattle.clock_policy.specs.ResidentLaws.{answered_residents}
+use Rattle.clock_policy.proofs.ResidentLaws.{answered_residents}
 use Rattle.clock_policy.specs.Residents.{residents, is_key, has_resident, is_gone, takes}
-use Rattle.paged_memory.specs.AlikeLaws.{CountsAlike, same_residents}
-use Rattle.paged_memory.specs.AmongLaws.{no_residents}
-use Rattle.paged_memory.specs.ComeLaws.{come}
-use Rattle.paged_memory.specs.LeaveLaws.{accessed_stage}
+use Rattle.paged_memory.proofs.AlikeLaws.{CountsAlike, same_residents}
+use Rattle.paged_memory.proofs.AmongLaws.{no_residents}
+use Rattle.paged_memory.proofs.ComeLaws.{come}
+use Rattle.paged_memory.proofs.LeaveLaws.{accessed_stage}
 use Rattle.paged_memory.specs.Moving.{SamePage}
-use Rattle.paged_memory.specs.SaveLaws.{gone_away}
+use Rattle.paged_memory.proofs.SaveLaws.{gone_away}
 use Rattle.paged_memory.specs.Stages.{is_resident_stage}
 use Rattle.paged_memory.specs.Whole.{stage_in, accessed_in, residents_among}
 use Rattle.pager_core.specs.Pager.{PagerState, pager_answered, admitted_with}
@@ -26,7 +26,7 @@ use Rattle.swap_slots.specs.PoolValue.{PoolValue}
 use Rattle.page_store.specs.JobValue.{SavedValue}
 use Rattle.machine_sides.specs.Admitting.{AdmissionValue, Admits, is_resident_at, taken_back}
 use Rattle.machine_sides.specs.Agreeing.{Agree, AgreeStill, AsksOf, AgreesPurged}
-use Rattle.machine_sides.specs.CollectLaws.{dropped_process, copied_process}
+use Rattle.machine_sides.proofs.CollectLaws.{dropped_process, copied_process}
 use Rattle.machine_sides.specs.Collecting.{Looks}
 use Rattle.machine_sides.specs.declared.collecting.Looked.{Looked}
 use Rattle.machine_sides.specs.declared.collecting.Looked.TheVariants as looked
@@ -37,18 +37,18 @@ use Rattle.machine_sides.specs.declared.purging.Purging.TheVariants as purge
 use Rattle.machine_sides.specs.declared.sweeping.Swept.{Swept}
 use Rattle.machine_sides.specs.declared.sweeping.Swept.TheVariants as swept
 use Rattle.machine_sides.specs.Loading.{Loads}
-use Rattle.machine_sides.specs.LookLaws.{looks_listed}
-use Rattle.machine_sides.specs.PurgeLaws.{neither, given_residents, unbarred}
+use Rattle.machine_sides.proofs.LookLaws.{looks_listed}
+use Rattle.machine_sides.proofs.PurgeLaws.{neither, given_residents, unbarred}
 use Rattle.machine_sides.specs.Purging.{PurgesAll, Purges}
 use Rattle.machine_sides.specs.SavingBack.{EndsSave}
-use Rattle.machine_sides.specs.SavingLaws.{freed_ends, left_ends, returned_ends}
+use Rattle.machine_sides.proofs.SavingLaws.{freed_ends, left_ends, returned_ends}
 use Rattle.machine_sides.specs.Sides.{PagerSideValue}
-use Rattle.machine_sides.specs.StageLaws.{stage_below}
-use Rattle.machine_sides.specs.SweepLaws.{read_alike, answers_together}
+use Rattle.machine_sides.proofs.StageLaws.{stage_below}
+use Rattle.machine_sides.proofs.SweepLaws.{read_alike, answers_together}
 use Rattle.machine_sides.specs.Sweeping.{bit_of, bit_at, AnswersQuestion, Sweeps}
 use Rattle.machine_sides.proofs.Sweeps.{victim_is_there, read_resident}
 use Rattle.machine_sides.specs.Together.{Together, residents_in, key_of}
-use Rattle.machine_sides.specs.TogetherLaws.{alike_residents, residents_same}
+use Rattle.machine_sides.proofs.TogetherLaws.{alike_residents, residents_same}
 
 -- a key's test passes that key alone
 key_tested : (a b : Key) → is_key a b ≡ true → b ≡ a

@@ -3,11 +3,11 @@ use Rattle.std.proofs.Common.{◌≡◌, ℕ, ◌^◌, ◌<◌, Bool, true, fals
 use Rattle.std.specs.Prelude.{OnOk, OnErr, IfErr}
 use Rattle.std.proofs.lemmas.Bool.Decides.{leb_tells}
 use Rattle.clock_policy.specs.declared.key.Key.{Key}
-use Rattle.clock_policy.specs.AdmitLaws.{is_key_self, key_residents}
+use Rattle.clock_policy.proofs.AdmitLaws.{is_key_self, key_residents}
 use Rattle.clock_policy.specs.Residents.{is_key}
-use Rattle.paged_memory.specs.ComeLaws.{come, refused_alike}
+use Rattle.paged_memory.proofs.ComeLaws.{come, refused_alike}
 use Rattle.paged_memory.specs.Stages.{is_resident_stage, is_absent_stage}
-use Rattle.paged_memory.specs.StagesLaws.{resident_not_absent}
+use Rattle.paged_memory.proofs.StagesLaws.{resident_not_absent}
 use Rattle.paged_memory.specs.Whole.{stage_in}
 use Rattle.paged_memory.specs.declared.filling.PageInFault.{PageInFault}
 use Rattle.pager_core.specs.Pager.{PagerState}
@@ -15,9 +15,9 @@ use Rattle.space_core.specs.StandsFor.{SpaceValue}
 use Rattle.machine_sides.specs.Admitting.{AdmissionValue, is_resident_at}
 use Rattle.machine_sides.specs.Agreeing.{AgreeStill, AgreesWhereListed}
 use Rattle.machine_sides.specs.Loading.{Loads, DoesNotLoad}
-use Rattle.machine_sides.specs.StageLaws.{stage_below}
+use Rattle.machine_sides.proofs.StageLaws.{stage_below}
 use Rattle.machine_sides.specs.Together.{residents_in, key_of}
-use Rattle.machine_sides.specs.TogetherLaws.{residents_more, alike_residents}
+use Rattle.machine_sides.proofs.TogetherLaws.{residents_more, alike_residents}
 use Rattle.machine_sides.proofs.Agreements.{listed_agree, absent_counts}
 
 module _ {S : Type 0} where

@@ -3,14 +3,14 @@ use Rattle.std.proofs.Common.{◌≡◌, ℕ, ◌^◌, ◌<◌, Bool, false, Lis
 use Rattle.page_store.specs.declared.answer.Collected.{Collected}
 use Rattle.page_store.specs.declared.answer.Collected.TheVariants as answer
 use Rattle.paged_memory.specs.Leaving.{lets_go}
-use Rattle.paged_memory.specs.LooksLaws.{ComesTo, TakesSpare, comes_to, wants_slotless, leaving_stage, wants_uncached, wants_unbacked}
+use Rattle.paged_memory.proofs.LooksLaws.{ComesTo, TakesSpare, comes_to, wants_slotless, leaving_stage, wants_uncached, wants_unbacked}
 use Rattle.paged_memory.specs.Moving.{WantsSlot, LooksAt, OnlyPages, with_pages, slot_in}
 use Rattle.paged_memory.specs.Paged.{PagedValue}
 use Rattle.paged_memory.specs.Stages.{is_leaving_stage}
 use Rattle.space_core.specs.StandsFor.{SpaceValue}
 use Rattle.swap_slots.specs.PoolValue.{PoolValue}
 use Rattle.machine_sides.specs.Collecting.{Finds, TakesSlot}
-use Rattle.machine_sides.specs.StageLaws.{stage_below}
+use Rattle.machine_sides.proofs.StageLaws.{stage_below}
 
 module _ (L S : Type 0) (vpn : ℕ) (small : vpn < 2 ^ 20) where
   module _ (space space' : SpaceValue S) (stays : space' ≡ record space { memory = with_pages space.memory space'.memory }) where

@@ -5,17 +5,17 @@ use Rattle.flat_machine.specs.declared.end.End.{End}
 use Rattle.frame_pool.specs.FrameValue.{FrameValue}
 use Rattle.swap_slots.specs.PoolValue.{PoolValue}
 use Rattle.paged_memory.specs.Counting.{frame_passes}
-use Rattle.paged_memory.specs.GivenLaws.{has_given, none_given, then_given, all_pages, all_entries}
+use Rattle.paged_memory.proofs.GivenLaws.{has_given, none_given, then_given, all_pages, all_entries}
 use Rattle.paged_memory.specs.Moving.{GivesBelow, GivesIn, HasNothingBelow, EmptiesCaches, SameCaches, SameTablesIn, slots_below, with_slot}
-use Rattle.paged_memory.specs.NoticesLaws.{empties_as}
+use Rattle.paged_memory.proofs.NoticesLaws.{empties_as}
 use Rattle.paged_memory.specs.Paged.{PagedValue}
-use Rattle.paged_memory.specs.SlotsLaws.{none_gives_below, one_gives_below, all_gives_below}
+use Rattle.paged_memory.proofs.SlotsLaws.{none_gives_below, one_gives_below, all_gives_below}
 use Rattle.paged_memory.specs.Whole.{harts_in}
 use Rattle.pager_core.specs.Pager.{PagerState}
 use Rattle.space_core.specs.Caches.{if_ended, emptied}
 use Rattle.space_core.specs.StandsFor.{SpaceValue}
 use Rattle.machine_sides.specs.Together.{frames_where, frames_in}
-use Rattle.machine_sides.specs.PurgeLaws.{frames_where-append}
+use Rattle.machine_sides.proofs.PurgeLaws.{frames_where-append}
 use Rattle.machine_sides.specs.Purging.{as_list, FreesAnyFrame, Pools, GivesSome, StopsGiving, GivesToPools}
 
 frames_where-as_list : (test : ℕ → Bool) (o : Option FrameValue) → frames_where test (as_list o) ≡ cond (frame_passes test o) 1 0

@@ -10,11 +10,11 @@ use Rattle.clock_policy.specs.declared.answer.Bit.TheVariants.{Zero, One, Gone}
 use Rattle.clock_policy.specs.declared.answer.Verdict.{Verdict}
 use Rattle.clock_policy.specs.declared.answer.Verdict.TheVariants.{Victim}
 use Rattle.clock_policy.specs.declared.refusal.Refusal.{Refusal}
-use Rattle.clock_policy.specs.ResidentLaws.{victim_asked}
+use Rattle.clock_policy.proofs.ResidentLaws.{victim_asked}
 use Rattle.clock_policy.specs.ClockPro.{ClockState, question_of, answered, asked_entry, entry_answered, kind_answered, gone_on}
 use Rattle.clock_policy.specs.Residents.{is_gone}
-use Rattle.paged_memory.specs.AlikeLaws.{same_stage}
-use Rattle.paged_memory.specs.LeaveLaws.{forgets_pages, accessed_stage}
+use Rattle.paged_memory.proofs.AlikeLaws.{same_stage}
+use Rattle.paged_memory.proofs.LeaveLaws.{forgets_pages, accessed_stage}
 use Rattle.paged_memory.specs.Moving.{SamePage}
 use Rattle.paged_memory.specs.Stages.{is_resident_stage}
 use Rattle.paged_memory.specs.Whole.{stage_in, accessed_in}

@@ -92,7 +92,7 @@ pub fn purge_bars<L: Ledger, S: SwapSlot>(process: &Space<L, S>) -> Option<Purge
 }
 
 /// Whether a page of a process is being saved, or a copy of one is out.
-#[tactic(auto, using(crate::specs::PurgeLaws::is_saving_some, crate::specs::PurgeLaws::is_saving_none))]
+#[tactic(auto, using(crate::proofs::PurgeLaws::is_saving_some, crate::proofs::PurgeLaws::is_saving_none))]
 fn is_saving<L: Ledger, S: SwapSlot>(space: &Space<L, S>) -> bool
     ensures { result ≡ is_saving_any space.now.memory }
 {

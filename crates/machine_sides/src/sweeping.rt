@@ -79,7 +79,7 @@ fn read_bit<L: Ledger, S: SwapSlot>(space: &mut Space<L, S>, vpn: u32) -> Bit
 }
 
 /// A resident page begins to leave its frame.
-#[tactic(auto, using(paged_memory::specs::MovingLaws::same_reserved))]
+#[tactic(auto, using(paged_memory::proofs::MovingLaws::same_reserved))]
 fn evict<L: Ledger, S: SwapSlot>(space: &mut Space<L, S>, vpn: u32)
     requires small { vpn < 2 ^ 20 }
     requires resident { is_resident_stage (stage_in space.old.memory vpn) ≡ true }

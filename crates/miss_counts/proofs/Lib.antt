@@ -1,3 +1,5 @@
+pub mod ServingLaws
+pub mod ZippedLaws
 mod Doublings
 mod Powers
 mod Seen

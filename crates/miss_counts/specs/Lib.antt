@@ -2,5 +2,3 @@ pub mod Counted
 pub mod FrameNumbers
 pub mod Guests
 pub mod Playing
-pub mod ServingLaws
-pub mod ZippedLaws

@@ -32,7 +32,7 @@ pub enum AnyPlayer {
 
 impl AnyPlayer {
     /// The policy with its frames empty. What is to come are its definition's misses.
-    #[tactic(auto, using(crate::specs::ServingLaws::not_refused))]
+    #[tactic(auto, using(crate::proofs::ServingLaws::not_refused))]
     pub fn new(alloc: Global, policy: PolicyName, frames: Frames) -> Result<Self, AllocError>
         requires { serves policy frames.number ≡ true }
         ensures all { IfOk result (λ player. (string : List Key) →

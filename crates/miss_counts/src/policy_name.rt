@@ -157,7 +157,7 @@ fn write_part<W: fmt::Write>(
 }
 
 /// Whether one of the policies serves so many frames.
-#[tactic(auto, using(crate::specs::ServingLaws::serving_on, crate::specs::ServingLaws::serving_found))]
+#[tactic(auto, using(crate::proofs::ServingLaws::serving_on, crate::proofs::ServingLaws::serving_found))]
 pub fn any_serves(policies: &[PolicyName], frames: Frames) -> bool
     ensures { result ≡ any_serves policies.now frames.number }
 {
@@ -170,7 +170,7 @@ pub fn any_serves(policies: &[PolicyName], frames: Frames) -> bool
 }
 
 /// Whether one of them serves one of these numbers of frames.
-#[tactic(auto, using(crate::specs::ServingLaws::served_found))]
+#[tactic(auto, using(crate::proofs::ServingLaws::served_found))]
 pub fn any_served(policies: &[PolicyName], frames: &[Frames]) -> bool
     ensures { result ≡ any_served policies.now (map (λ f. f.number) frames.now) }
 {

@@ -16,7 +16,7 @@ use Rattle.page_memory.specs.Pages as plain
 use Rattle.page_memory.specs.Memory.{Memory, written, exchanged, released, stored_if, stored, replaced, copied_in, loaded_reserved, reserving, stored_conditionally, with_zeroed}
 use Rattle.page_memory.specs.Reservations.{has_reserved}
 use Rattle.page_memory.specs.ReadOnly.{KeepsReadOnly}
-use Rattle.page_memory.specs.ZeroedLaws.{get-with_zeroed, kept_or_zero, in_range}
+use Rattle.page_memory.proofs.ZeroedLaws.{get-with_zeroed, kept_or_zero, in_range}
 
 pub kept_itself : (memory : Memory) → KeepsReadOnly memory memory
 kept_itself memory number page found sealed = found

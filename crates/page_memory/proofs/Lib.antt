@@ -1,3 +1,10 @@
+pub mod MemoryLaws
+pub mod EntriesLaws
+pub mod ZeroedLaws
+pub mod AccessLaws
+pub mod StandsForLaws
+pub mod RecentPagesLaws
+pub mod RememberedLaws
 pub mod Indexing
 pub mod Overwriting
 pub mod PlacedEntries

@@ -17,8 +17,8 @@ use Rattle.page_memory.specs.Words.{page_number, bytes_in, page_offset}
 use Rattle.page_memory.specs.Rights.{may, read_write}
 use Rattle.page_memory.specs.Pages.{Page, Pages, zero_page, overwritten, usable, with_right, answer_by, aligned_page, if_aligned, number_at, copied_out}
 use Rattle.page_memory.specs.Remembered.{StandsAt}
-use Rattle.page_memory.specs.EntriesLaws.{value_by_place}
-use Rattle.page_memory.specs.AccessLaws.{usable_found, aligned_usable}
+use Rattle.page_memory.proofs.EntriesLaws.{value_by_place}
+use Rattle.page_memory.proofs.AccessLaws.{usable_found, aligned_usable}
 use Rattle.page_memory.specs.Entries.{pages_of, place_of, value_at, with_value, added_unless, added, with_added, LacksOne}
 use Rattle.page_memory.specs.PageRow.{pages_in, page_of_row, with_page, Rewritten}
 

@@ -6,16 +6,9 @@ pub mod Pages
 pub mod Reply
 pub mod Reservations
 pub mod Memory
-pub mod MemoryLaws
 pub mod Entries
-pub mod EntriesLaws
 pub mod PageMap
 pub mod PageRow
-pub mod ZeroedLaws
-pub mod AccessLaws
-pub mod StandsForLaws
 pub mod RecentPages
-pub mod RecentPagesLaws
 pub mod Remembered
-pub mod RememberedLaws
 pub mod ReadOnly

@@ -14,7 +14,7 @@ use crate::words::Access;
 
 /// The place of a page that an access may use.
 #[inline]
-#[tactic(auto, using(crate::specs::EntriesLaws::value_by_place))]
+#[tactic(auto, using(crate::proofs::EntriesLaws::value_by_place))]
 pub(crate) fn place_allowed(
     pages: &PageRow,
     number: u32,

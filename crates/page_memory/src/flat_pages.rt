@@ -58,7 +58,7 @@ impl FlatPages {
     }
 
     /// Maps a page where none is mapped.
-    #[tactic(auto, using(crate::specs::EntriesLaws::mapping))]
+    #[tactic(auto, using(crate::proofs::EntriesLaws::mapping))]
     pub fn map_page(&mut self, number: u32, page: Page) -> Result<(), AllocError>
         requires small { number < 2 ^ 20 }
         requires absent { map.get self.old number ≡ None }
@@ -72,7 +72,7 @@ impl FlatPages {
 
     /// Maps pages of zeros, to be read and written, at so many page numbers from the first on, wherever
     /// none is mapped: all of them, or none where memory is wanting, as it can be only where one is missing.
-    #[tactic(auto, using(crate::specs::ZeroedLaws::added_zeroed, crate::specs::ZeroedLaws::lacks_page))]
+    #[tactic(auto, using(crate::proofs::ZeroedLaws::added_zeroed, crate::proofs::ZeroedLaws::lacks_page))]
     pub fn map_zeroed(&mut self, first: u32, count: u32) -> Result<(), AllocError>
         requires { first + count ≤ 2 ^ 20 }
         ensures ok { OnOk result (self.new ≡ with_zeroed first count self.old) }
@@ -103,7 +103,7 @@ impl FlatPages {
     /// The same from a page that is not remembered.
     #[cold]
     #[inline(never)]
-    #[tactic(auto, using(crate::specs::RememberedLaws::not_fetched))]
+    #[tactic(auto, using(crate::proofs::RememberedLaws::not_fetched))]
     fn fetch_anew(&mut self, address: u32) -> Reply
         ensures word { answered result ≡ fetched self.old address }
         ensures memory { self.new ≡ self.old }
@@ -151,7 +151,7 @@ impl FlatPages {
 
     /// The same from a page that is not remembered.
     #[inline(never)]
-    #[tactic(auto, using(crate::specs::RememberedLaws::not_loaded))]
+    #[tactic(auto, using(crate::proofs::RememberedLaws::not_loaded))]
     fn load_anew(&mut self, width: Width, address: u32) -> Reply
         ensures number { answered result ≡ loaded self.old width address }
         ensures memory { self.new ≡ self.old }
@@ -216,7 +216,7 @@ impl FlatPages {
 
     /// The same to a page that is not remembered.
     #[inline(never)]
-    #[tactic(auto, using(crate::specs::AccessLaws::not_stored))]
+    #[tactic(auto, using(crate::proofs::AccessLaws::not_stored))]
     fn store_anew(&mut self, width: Width, address: u32, word: u32) -> Result<(), MemoryFault>
         ensures ok { OnOk result (stored self.old width address word ≡ Ok self.new) }
         ensures fault { IfErr result (λ fault. stored self.old width address word ≡ Err fault) }
@@ -249,7 +249,7 @@ impl FlatPages {
     }
 
     /// Copies bytes into memory, from an address on and within its page.
-    #[tactic(auto, using(crate::specs::AccessLaws::not_copied))]
+    #[tactic(auto, using(crate::proofs::AccessLaws::not_copied))]
     pub fn copy_in(&mut self, address: u32, from: &[u8]) -> Result<(), MemoryFault>
         requires { page_offset address + length from.now ≤ 4096 }
         ensures ok { OnOk result (copied_in self.old address from.now ≡ Ok self.new) }
@@ -262,7 +262,7 @@ impl FlatPages {
     }
 
     /// The byte at an address, where a page is mapped there.
-    #[tactic(auto, using(crate::specs::EntriesLaws::value_by_place), unfolding(crate::specs::Pages::byte_at))]
+    #[tactic(auto, using(crate::proofs::EntriesLaws::value_by_place), unfolding(crate::specs::Pages::byte_at))]
     pub fn byte(&self, address: u32) -> Option<u8>
         ensures { result ≡ byte_at self.now address }
     {

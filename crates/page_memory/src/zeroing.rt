@@ -29,7 +29,7 @@ impl ZeroPage for Rights {
 impl<T: ZeroPage> PageMap<T> {
     /// Adds a page of zeros at each of so many page numbers from the first on that has none, or at none where memory is
     /// wanting, as it can be only where one is missing.
-    #[tactic(auto, using(crate::specs::EntriesLaws::front_stays, crate::specs::EntriesLaws::lacks_one), unfolding(crate::specs::Entries::with_added))]
+    #[tactic(auto, using(crate::proofs::EntriesLaws::front_stays, crate::proofs::EntriesLaws::lacks_one), unfolding(crate::specs::Entries::with_added))]
     pub fn add_zeroed(&mut self, alloc: Global, first: u32, count: u32) -> Result<(), AllocError>
         requires { first + count ≤ 2 ^ 20 }
         ensures ok { OnOk result (self.new ≡ with_added first count T.zero_page self.old) }
@@ -47,7 +47,7 @@ impl<T: ZeroPage> PageMap<T> {
     }
 
     /// Adds a page of zeros at a page number that has none.
-    #[tactic(auto, using(crate::specs::EntriesLaws::added_behind), unfolding(crate::specs::Entries::added))]
+    #[tactic(auto, using(crate::proofs::EntriesLaws::added_behind), unfolding(crate::specs::Entries::added))]
     fn add_zero_page(&mut self, alloc: Global, number: u32) -> Result<(), AllocError>
         requires { number < 2 ^ 20 }
         ensures ok { OnOk result (self.new ≡ added number T.zero_page self.old) }

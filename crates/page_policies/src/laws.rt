@@ -9,13 +9,13 @@ ghost use Rattle.page_policies.specs.Demand.{NoneMissesLess, IsPlayed};
 ghost use Rattle.page_policies.specs.Random.{random_misses};
 
 /// LRU has the inclusion property: at each moment the pages in fewer frames are among those in more, whatever the string.
-#[tactic(auto, using(crate::specs::InclusionLaws::inclusion))]
+#[tactic(auto, using(crate::proofs::InclusionLaws::inclusion))]
 pub fn fewer_frames_hold_fewer_pages()
     ensures { Inclusion }
 {}
 
 /// With more frames LRU never misses more, nor does the optimum, whatever the string.
-#[tactic(auto, using(crate::specs::InclusionLaws::lru_misses_no_more, crate::specs::MoreFramesLaws::optimum_misses_no_more))]
+#[tactic(auto, using(crate::proofs::InclusionLaws::lru_misses_no_more, crate::proofs::MoreFramesLaws::optimum_misses_no_more))]
 pub fn more_frames_never_miss_more()
     ensures lru { MissesNoMore 0 lru_misses }
     ensures optimum { MissesNoMore 1 optimal_misses }
@@ -30,7 +30,7 @@ pub fn no_policy_misses_less()
 
 /// The optimum can be reached: what it does is a way to serve the string. FIFO, CLOCK, LRU and random replacement are such ways too, so
 /// that the optimum is their floor.
-#[tactic(auto, using(crate::specs::PlayedLaws::optimum_played, crate::specs::PlayedLaws::fifo_played, crate::specs::PlayedLaws::lru_played, crate::specs::SlotPlayLaws::clock_played, crate::specs::RandomLaws::random_played))]
+#[tactic(auto, using(crate::specs::PlayedLaws::optimum_played, crate::specs::PlayedLaws::fifo_played, crate::specs::PlayedLaws::lru_played, crate::proofs::SlotPlayLaws::clock_played, crate::specs::RandomLaws::random_played))]
 pub fn optimum_is_a_play()
     ensures optimum { IsPlayed optimal_misses }
     ensures fifo { IsPlayed fifo_misses }

@@ -4,7 +4,7 @@ use Rattle.std.specs.Option.{option_or}
 use Rattle.std.proofs.Common.{arith, sym, ap, ◌∙◌, inl, inr}
 use Rattle.std.proofs.lemmas.Bool.Decides.{nat_tests}
 use Rattle.clock_policy.specs.declared.key.Key.{Key}
-use Rattle.clock_policy.specs.AdmitLaws.{one_key}
+use Rattle.clock_policy.proofs.AdmitLaws.{one_key}
 use Rattle.page_ring.specs.Slots.{same_key}
 
 pub keys_same : (k q : Key) → same_key k q ≡ true → k ≡ q

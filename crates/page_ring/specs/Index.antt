@@ -4,13 +4,13 @@ use Rattle.std.specs.Option.{option_or}
 use Rattle.std.proofs.Common.{arith, sym, ap, ◌∙◌, subst, inl, inr}
 use Rattle.std.proofs.lemmas.Bool.Decides.{nat_tests}
 use Rattle.std.specs.HashMap.{get_by}
-use Rattle.clock_policy.specs.FindLaws.{option_or-none}
+use Rattle.clock_policy.proofs.FindLaws.{option_or-none}
 use Rattle.clock_policy.specs.declared.key.Key.{Key}
 use Rattle.clock_policy.specs.declared.entry.Entry.{Entry}
 use Rattle.clock_policy.specs.declared.entry.EntryKind.{EntryKind}
 use Rattle.clock_policy.specs.ClockPro.{has_key, number}
-use Rattle.clock_policy.specs.CountLaws.{number-append}
-use Rattle.clock_policy.specs.AdmitLaws.{one_key}
+use Rattle.clock_policy.proofs.CountLaws.{number-append}
+use Rattle.clock_policy.proofs.AdmitLaws.{one_key}
 use Rattle.page_ring.specs.Linked.{Cell}
 use Rattle.page_ring.specs.Slots.{same_key, in_slot}
 use Rattle.page_ring.specs.declared.node_index.NodeIndex.{NodeIndex}

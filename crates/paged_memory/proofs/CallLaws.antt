@@ -10,7 +10,7 @@ use Rattle.page_store.specs.Keeping.{Keeping, is_loose}
 use Rattle.page_store.specs.PageValue.{PageValue, Place, Fresh, Resident, Leaving, Saving, Away, Purged, Backed}
 use Rattle.sv32_table.specs.Entry.{Entry, page_entry, blank}
 use Rattle.sv32_table.specs.EntryAt.{entry_at, ChangesEntry, SameTables, unaccessed_entry, accessed_of}
-use Rattle.sv32_table.specs.EntryLaws.{unaccessed_entry-page_entry, accessed_of-page_entry, accessed-page_entry, dirty-page_entry}
+use Rattle.sv32_table.proofs.EntryLaws.{unaccessed_entry-page_entry, accessed_of-page_entry, accessed-page_entry, dirty-page_entry}
 use Rattle.tlb_core.specs.declared.translation.Translation.{Translation}
 use Rattle.tlb_core.specs.Cache.{doomed}
 use Rattle.page_memory.specs.Pages.{Page}

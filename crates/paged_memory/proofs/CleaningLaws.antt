@@ -16,7 +16,7 @@ use Rattle.page_store.specs.declared.answer.Cleaned.TheVariants as end
 use Rattle.page_store.specs.declared.refusal.CleanRefusal.{CleanRefusal}
 use Rattle.sv32_table.specs.Entry.{Entry, page_entry}
 use Rattle.sv32_table.specs.EntryAt.{entry_at, ChangesEntry, SameTables, dirty_of, undirtied_entry}
-use Rattle.sv32_table.specs.EntryLaws.{undirtied_entry-page_entry, dirty_of-page_entry}
+use Rattle.sv32_table.proofs.EntryLaws.{undirtied_entry-page_entry, dirty_of-page_entry}
 use Rattle.tlb_core.specs.declared.translation.Translation.{Translation}
 use Rattle.tlb_core.specs.Cache.{doomed}
 use Rattle.paged_memory.specs.Calls.{IsResident, ChangesBy}

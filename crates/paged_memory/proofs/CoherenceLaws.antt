@@ -15,13 +15,13 @@ use Rattle.page_store.specs.PageValue.{PageValue, Place}
 use Rattle.sv32_table.specs.Entry.{Entry, page_entry, word_of}
 use Rattle.sv32_table.specs.EntryAt.{entry_at, walk_entry}
 use Rattle.sv32_table.specs.Leading.{LeadsByEntry}
-use Rattle.sv32_table.specs.EntryLaws.{is_store, walk_entry-page_entry, walk_entry-blank}
+use Rattle.sv32_table.proofs.EntryLaws.{is_store, walk_entry-page_entry, walk_entry-blank}
 use Rattle.sv32_table.specs.declared.fault.WalkFault.{WalkFault}
 use Rattle.sv32_table.specs.declared.fault.WalkFault.TheVariants.{PageFault}
 use Rattle.sv32_table.specs.declared.walk.Leaf.{Leaf}
 use Rattle.tlb_core.specs.declared.translation.Translation.{Translation}
 use Rattle.tlb_core.specs.Cache.{translation_of}
-use Rattle.tlb_core.specs.CacheLaws.{none-All}
+use Rattle.tlb_core.proofs.CacheLaws.{none-All}
 use Rattle.paged_memory.specs.Seen.{Seen, Standing, Resident, Leaving, Elsewhere, entry_seen, entry_standing, rights_seen, takes_stores, dirty_standing, is_loose_standing, is_used, used_standing}
 use Rattle.paged_memory.specs.Soundness.{IsSound}
 use Rattle.paged_memory.specs.Access.{is_resident, is_resident_standing}

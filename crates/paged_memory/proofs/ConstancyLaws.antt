@@ -5,7 +5,7 @@ use Rattle.std.proofs.lemmas.Option.{same_Some}
 use Rattle.std.specs.FinMap.{get}
 use Rattle.page_memory.specs.Pages.{Page, Pages}
 use Rattle.page_memory.specs.Rights.{may}
-use Rattle.page_memory.specs.StandsForLaws.{get-map_by-place}
+use Rattle.page_memory.proofs.StandsForLaws.{get-map_by-place}
 use Rattle.page_memory.specs.declared.words.Access.TheVariants.{Store}
 use Rattle.page_store.specs.Keeping.{NoSlot, Saved, Unbacked, Cleaning, CopyOut}
 use Rattle.page_store.specs.PageValue.{PageValue, Place, Fresh, Resident, Leaving, Saving, Away, Purged, shown}

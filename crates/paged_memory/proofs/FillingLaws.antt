@@ -12,7 +12,7 @@ use Rattle.page_memory.specs.declared.words.Access.TheVariants.{Load, Store}
 use Rattle.page_memory.specs.Rights.{may}
 use Rattle.sv32_table.specs.Entry.{Entry, page_entry}
 use Rattle.sv32_table.specs.EntryAt.{entry_at, ChangesEntry, AddsTable, has_table}
-use Rattle.sv32_table.specs.EntryLaws.{dirty-page_entry}
+use Rattle.sv32_table.proofs.EntryLaws.{dirty-page_entry}
 use Rattle.tlb_core.specs.declared.translation.Translation.{Translation}
 use Rattle.paged_memory.specs.Seen.{Elsewhere, entry_standing, rights_seen}
 use Rattle.paged_memory.specs.Soundness.{IsMapped}

@@ -11,7 +11,7 @@ use Rattle.page_store.specs.Moves.{given_back}
 use Rattle.page_store.specs.PageValue.{PageValue, Purged}
 use Rattle.sv32_table.specs.Entry.{blank}
 use Rattle.sv32_table.specs.EntryAt.{entry_at, ChangesEntry, SameTables, unmapped_entry}
-use Rattle.sv32_table.specs.EntryLaws.{unmapped_entry-page_entry, unmapped_entry-blank}
+use Rattle.sv32_table.proofs.EntryLaws.{unmapped_entry-page_entry, unmapped_entry-blank}
 use Rattle.tlb_core.specs.declared.translation.Translation.{Translation}
 use Rattle.paged_memory.specs.Seen.{Seen, Standing, Resident, Leaving, Elsewhere, entry_seen, entry_standing, rights_seen}
 use Rattle.page_memory.specs.Entries.{pages_of, place_of}

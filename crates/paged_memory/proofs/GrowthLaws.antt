@@ -12,8 +12,8 @@ use Rattle.page_memory.specs.Pages.{Page, with_zeroed, HasGap}
 use Rattle.page_memory.specs.Memory as whole
 use Rattle.page_memory.specs.Reservations.{Reservations}
 use Rattle.page_memory.specs.Entries.{place_of, added, added_unless, with_added, LacksOne}
-use Rattle.page_memory.specs.EntriesLaws.{inserted, place_stays}
-use Rattle.page_memory.specs.StandsForLaws.{entry-changes, map_by-added, gap-map_by}
+use Rattle.page_memory.proofs.EntriesLaws.{inserted, place_stays}
+use Rattle.page_memory.proofs.StandsForLaws.{entry-changes, map_by-added, gap-map_by}
 use Rattle.page_store.specs.PageValue.{PageValue, Fresh, fresh_zero_page}
 use Rattle.sv32_table.specs.Entry.{blank}
 use Rattle.sv32_table.specs.EntryAt.{entry_at}

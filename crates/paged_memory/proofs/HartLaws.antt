@@ -6,7 +6,7 @@ use Rattle.page_memory.specs.Entries.{place_of}
 use Rattle.sv32_table.specs.EntryAt.{entry_at}
 use Rattle.tlb_core.specs.declared.translation.Translation.{Translation}
 use Rattle.tlb_core.specs.Cache.{undoomed}
-use Rattle.tlb_core.specs.CacheLaws.{All-undoomed}
+use Rattle.tlb_core.proofs.CacheLaws.{All-undoomed}
 use Rattle.paged_memory.specs.Soundness.{IsSound}
 use Rattle.paged_memory.specs.Paged.{seen_at, Holds}
 

@@ -6,12 +6,12 @@ use Rattle.page_memory.specs.declared.words.Access.{Access}
 use Rattle.page_memory.specs.declared.words.Access.TheVariants.{Store}
 use Rattle.page_memory.specs.Rights.{may}
 use Rattle.page_memory.specs.Entries.{place_of}
-use Rattle.page_memory.specs.EntriesLaws.{has_value}
+use Rattle.page_memory.proofs.EntriesLaws.{has_value}
 use Rattle.page_store.specs.PageValue.{PageValue, Place, Fresh, Resident, Leaving, Saving, Away, Purged, writable}
 use Rattle.sv32_table.specs.EntryAt.{entry_at}
 use Rattle.tlb_core.specs.declared.translation.Translation.{Translation}
 use Rattle.tlb_core.specs.Cache.{Hits}
-use Rattle.tlb_core.specs.CacheLaws.{All-entry_of, page-entry_of}
+use Rattle.tlb_core.proofs.CacheLaws.{All-entry_of, page-entry_of}
 use Rattle.paged_memory.specs.Seen.{frame_seen, frame_standing, rights_seen, takes_stores}
 use Rattle.paged_memory.specs.Soundness.{IsSound}
 use Rattle.paged_memory.specs.Access.{Reaches, HasPage, MarksUse, TakesStores, cache_of}

@@ -5,7 +5,7 @@ use Rattle.std.specs.List.{list_any}
 use Rattle.std.proofs.lemmas.List.Elements.{All-nil, All-cons}
 use Rattle.tlb_core.specs.declared.translation.Translation.{Translation}
 use Rattle.tlb_core.specs.Cache.{translation_of, is_of_page, holds_mark}
-use Rattle.tlb_core.specs.CacheLaws.{All-none}
+use Rattle.tlb_core.proofs.CacheLaws.{All-none}
 use Rattle.paged_memory.proofs.SoundnessLaws.{Unheld, Unmarked}
 use Rattle.paged_memory.specs.Soundness.{is_held, is_marked}
 

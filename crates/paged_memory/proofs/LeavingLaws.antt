@@ -9,15 +9,15 @@ use Rattle.page_store.specs.PageValue.{PageValue, Place, Fresh, Resident, Leavin
 use Rattle.page_store.specs.Moves.{IfResident, left}
 use Rattle.sv32_table.specs.Entry.{Entry, blank}
 use Rattle.sv32_table.specs.EntryAt.{entry_at, ChangesEntry, SameTables, unmapped_entry, dirty_of}
-use Rattle.sv32_table.specs.EntryLaws.{unmapped_entry-page_entry, dirty_of-page_entry}
+use Rattle.sv32_table.proofs.EntryLaws.{unmapped_entry-page_entry, dirty_of-page_entry}
 use Rattle.tlb_core.specs.declared.translation.Translation.{Translation}
 use Rattle.tlb_core.specs.Cache.{doomed}
 use Rattle.paged_memory.specs.Seen.{frame_seen, rights_seen, takes_stores}
 use Rattle.paged_memory.specs.Calls.{IsResident, ChangesBy, Leaves}
 use Rattle.paged_memory.specs.Copies.{LeavesCopies, if_out}
-use Rattle.paged_memory.specs.CopiesMoveLaws.{other_bits, moved_copies}
+use Rattle.paged_memory.proofs.CopiesMoveLaws.{other_bits, moved_copies}
 use Rattle.paged_memory.specs.Paged.{PagedValue, seen_of, page_at, seen_at, flat_page, flat_pages, Holds, HoldsOrigin, IsConstant, ChangesPage}
-use Rattle.paged_memory.specs.SeenLaws.{unbacked_settled, loose_settled, backing_settled}
+use Rattle.paged_memory.proofs.SeenLaws.{unbacked_settled, loose_settled, backing_settled}
 use Rattle.paged_memory.proofs.SoundnessLaws.{Stays}
 use Rattle.paged_memory.proofs.PagedLaws.{Change, choice_here, Holds-doomed, memory_stays}
 use Rattle.paged_memory.proofs.CallLaws.{entry_resident, seen_resident}

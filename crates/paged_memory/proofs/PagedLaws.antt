@@ -6,8 +6,8 @@ use Rattle.std.specs.Ordering.{nat_cmp, eq_by_cmp}
 use Rattle.std.specs.Cmp.{nat_cmp_total}
 use Rattle.std.specs.FinMap.{get, from_entries, get-insert}
 use Rattle.page_memory.specs.Entries.{place_of, value_at, with_value}
-use Rattle.page_memory.specs.EntriesLaws.{equal_by_order, value_by_place, replaced_value, put_back, place_of-with_value}
-use Rattle.page_memory.specs.StandsForLaws.{value-changes, map_by-same}
+use Rattle.page_memory.proofs.EntriesLaws.{equal_by_order, value_by_place, replaced_value, put_back, place_of-with_value}
+use Rattle.page_memory.proofs.StandsForLaws.{value-changes, map_by-same}
 use Rattle.page_store.specs.PageValue.{PageValue, frame_of, Backed}
 use Rattle.sv32_table.specs.Entry.{Entry}
 use Rattle.sv32_table.specs.EntryAt.{entry_at, has_table, ChangesEntry}

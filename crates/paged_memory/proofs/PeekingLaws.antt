@@ -5,7 +5,7 @@ use Rattle.std.specs.FinMap.{get}
 use Rattle.page_memory.specs.Words.{page_number, page_offset}
 use Rattle.page_memory.specs.Entries.{place_of, value_at, with_value}
 use Rattle.page_memory.specs.Reservations.{Reservations}
-use Rattle.page_memory.specs.StandsForLaws.{get-map_by-place}
+use Rattle.page_memory.proofs.StandsForLaws.{get-map_by-place}
 use Rattle.page_store.specs.declared.refusal.ReadFault.TheVariants as read
 use Rattle.page_store.specs.PageValue.{PageValue, Place, Fresh, Resident, Leaving, Saving, Away, Purged, content, page_state_of, Known, kept_digest}
 use Rattle.page_store.specs.Moves.{IfAbsent, IfAway, RefusesRead}

@@ -8,7 +8,7 @@ use Rattle.page_memory.specs.declared.fault.MemoryFault.{MemoryFault}
 use Rattle.page_memory.specs.declared.fault.MemoryFault.TheVariants.{PageFault}
 use Rattle.page_memory.specs.Rights.{may}
 use Rattle.page_memory.specs.Entries.{value_at}
-use Rattle.page_memory.specs.StandsForLaws.{usable-map_by}
+use Rattle.page_memory.proofs.StandsForLaws.{usable-map_by}
 use Rattle.page_store.specs.PageValue.{PageValue, content}
 use Rattle.rv_exec.specs.declared.bus.BusError.{BusError}
 use Rattle.rv_exec.specs.declared.bus.BusError.TheVariants.{Fault, Absent}

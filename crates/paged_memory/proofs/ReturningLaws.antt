@@ -11,7 +11,7 @@ use Rattle.page_store.specs.Moves.{brought_back}
 use Rattle.page_store.specs.PageValue.{PageValue, Place, Fresh, Resident, Leaving, Saving, Away, Purged, Backed}
 use Rattle.sv32_table.specs.Entry.{Entry, page_entry}
 use Rattle.sv32_table.specs.EntryAt.{entry_at, has_table, ChangesEntry, SameTables}
-use Rattle.sv32_table.specs.EntryLaws.{dirty-page_entry}
+use Rattle.sv32_table.proofs.EntryLaws.{dirty-page_entry}
 use Rattle.tlb_core.specs.declared.translation.Translation.{Translation}
 use Rattle.paged_memory.specs.Seen.{frame_seen, rights_seen, takes_stores, is_used}
 use Rattle.paged_memory.specs.Leaving.{is_leaving, is_leaving_place, Returns, ReturnsAs}

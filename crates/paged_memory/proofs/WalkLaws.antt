@@ -14,10 +14,10 @@ use Rattle.page_store.specs.Keeping.{Keeping, is_loose}
 use Rattle.page_store.specs.PageValue.{PageValue, Resident, Backed}
 use Rattle.sv32_table.specs.Entry.{Entry, page_entry}
 use Rattle.sv32_table.specs.EntryAt.{entry_at, ChangesEntry, SameTables, walked_entry, dirty_of}
-use Rattle.sv32_table.specs.EntryLaws.{is_store, walked_entry-page_entry, dirty_of-page_entry, dirty-page_entry, accessed-page_entry}
+use Rattle.sv32_table.proofs.EntryLaws.{is_store, walked_entry-page_entry, dirty_of-page_entry, dirty-page_entry, accessed-page_entry}
 use Rattle.tlb_core.specs.declared.translation.Translation.{Translation}
 use Rattle.tlb_core.specs.Cache.{Hits, OnePerPage, filled, translation_of}
-use Rattle.tlb_core.specs.CacheLaws.{All-filled, All-none, hits_filled, none-All}
+use Rattle.tlb_core.proofs.CacheLaws.{All-filled, All-none, hits_filled, none-All}
 use Rattle.paged_memory.specs.Seen.{Seen, frame_seen, rights_seen, is_dirty, takes_stores, is_used}
 use Rattle.paged_memory.specs.Soundness.{IsSound}
 use Rattle.paged_memory.specs.Calls.{IsResident}

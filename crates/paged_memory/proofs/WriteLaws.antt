@@ -13,8 +13,8 @@ use Rattle.page_memory.specs.declared.words.Width.{Width}
 use Rattle.page_memory.specs.declared.words.Width.TheVariants.{Word}
 use Rattle.page_memory.specs.declared.words.Access.TheVariants.{Store}
 use Rattle.page_memory.specs.Entries.{with_value}
-use Rattle.page_memory.specs.EntriesLaws.{place_of-with_value}
-use Rattle.page_memory.specs.StandsForLaws.{stored-changed, copied-changed}
+use Rattle.page_memory.proofs.EntriesLaws.{place_of-with_value}
+use Rattle.page_memory.proofs.StandsForLaws.{stored-changed, copied-changed}
 use Rattle.page_store.specs.PageValue.{PageValue, Place, Fresh, Resident, Leaving, Saving, Away, Purged, content, shown, writable, frame_of, Backed, changed}
 use Rattle.page_store.specs.Lending.{rewritten, with_bytes}
 use Rattle.sv32_table.specs.Entry.{Entry}
@@ -25,7 +25,7 @@ use Rattle.paged_memory.specs.Soundness.{IsMapped}
 use Rattle.paged_memory.specs.Access.{Reaches, KeepsBare, bare_at}
 use Rattle.paged_memory.specs.Paged.{standing_of, seen_of, page_at, seen_at, flat_page, flat_pages, Holds, ChangesPage}
 use Rattle.paged_memory.specs.HartMemoryLaws.{seen_bare}
-use Rattle.paged_memory.specs.SeenLaws.{stores_changed}
+use Rattle.paged_memory.proofs.SeenLaws.{stores_changed}
 use Rattle.paged_memory.proofs.ReadLaws.{usable_reached}
 use Rattle.paged_memory.proofs.PagedLaws.{Change, get-page_at, page_at-place, changes_at_place, changes_no_entry, Holds-held}
 

@@ -6,7 +6,7 @@ use Rattle.std.proofs.lemmas.Option.{same_Some}
 use Rattle.sv32_table.specs.EntryAt.{entry_at, dirty_of}
 use Rattle.tlb_core.specs.declared.translation.Translation.{Translation}
 use Rattle.tlb_core.specs.Cache.{OnePerPage, filled, translation_of}
-use Rattle.tlb_core.specs.CacheLaws.{All-entry_of, All-filled, filled_finds, found_at, page-entry_of}
+use Rattle.tlb_core.proofs.CacheLaws.{All-entry_of, All-filled, filled_finds, found_at, page-entry_of}
 use Rattle.paged_memory.specs.OwnCache.{fills, FilledFrom, KeepsDoomed, CarriesDirty, GoesOn, WalkFills, MayFill}
 
 -- translations that are filled behind others

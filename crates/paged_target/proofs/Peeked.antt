@@ -3,7 +3,7 @@ use Rattle.std.proofs.Common.{◌≡◌, ◌<◌, ◌≤◌, ℕ, ◌+◌, lengt
 use Rattle.std.specs.Prelude.{◌^◌, option_and_then, Result}
 use Rattle.page_memory.specs.Memory.{byte_at}
 use Rattle.page_memory.specs.Words.{page_number, page_offset}
-use Rattle.paged_memory.specs.PeekLaws.{looked_stage, never_fails, not_mapped, was_given_up}
+use Rattle.paged_memory.proofs.PeekLaws.{looked_stage, never_fails, not_mapped, was_given_up}
 use Rattle.paged_memory.specs.Whole.{stage_in}
 use Rattle.paged_memory.specs.declared.peeking.PeekFault.{PeekFault}
 use Rattle.paged_memory.specs.declared.peeking.PeekFault.TheVariants as fault
@@ -13,7 +13,7 @@ use Rattle.flat_machine.specs.Schedule.{written_out}
 use Rattle.space_core.specs.StandsFor.{SpaceValue, flat_with, own_ending}
 use Rattle.machine_core.specs.Machine.{CoreValue}
 use Rattle.machine_core.specs.Reading.{PeeksAt}
-use Rattle.machine_core.specs.TotalLaws.{get_set_same}
+use Rattle.machine_core.proofs.TotalLaws.{get_set_same}
 use Rattle.debug_core.specs.Points.{bytes_from}
 use Rattle.paged_target.specs.Intact.{IsIntact, IsUnkilled, IsUnkilledIn}
 use Rattle.paged_target.specs.Reads.{KeepsShown}

@@ -6,14 +6,14 @@ use Rattle.page_memory.specs.Pages as plain
 use Rattle.page_memory.specs.Memory.{byte_at}
 use Rattle.page_memory.specs.Words.{page_number, page_offset}
 use Rattle.elf_image.specs.Image.{ImageContent}
-use Rattle.paged_memory.specs.PeekLaws.{rights_staged}
+use Rattle.paged_memory.proofs.PeekLaws.{rights_staged}
 use Rattle.paged_memory.specs.Showing.{mapped_page}
 use Rattle.paged_memory.specs.Whole.{stage_in}
 use Rattle.env_calls.specs.Environment.{any_live, most_harts, next_live}
-use Rattle.env_calls.specs.LiveLaws.{next_is_live, next_is_some}
+use Rattle.env_calls.proofs.LiveLaws.{next_is_live, next_is_some}
 use Rattle.flat_machine.specs.ByTurns.{turn_after}
 use Rattle.flat_machine.specs.Process.{Process, IsWhole, hart_registers, is_live, may_step, opening, flat_run}
-use Rattle.flat_machine.specs.StepLaws.{has_no_ending}
+use Rattle.flat_machine.proofs.StepLaws.{has_no_ending}
 use Rattle.flat_machine.specs.Schedule.{written_out}
 use Rattle.flat_machine.specs.declared.end.End.{End}
 use Rattle.space_core.specs.StandsFor.{SpaceValue, StandsFor, flat_with, own_ending}
@@ -28,7 +28,7 @@ use Rattle.machine_core.specs.Reading.{is_live_in}
 use Rattle.debug_core.specs.Progresses.{ended_full}
 use Rattle.paged_target.specs.Marks.{marks_at, marks_in}
 use Rattle.paged_target.specs.Shown.{flat_at, flat_in, flat_of, no_process, shown_as}
-use Rattle.serial_driver.specs.WholeLaws.{whole_from_opening}
+use Rattle.serial_driver.proofs.WholeLaws.{whole_from_opening}
 
 -- ---- a process that was ended because it is full
 

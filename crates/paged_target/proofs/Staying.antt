@@ -21,7 +21,7 @@ use Rattle.machine_core.specs.MachineRun.{step_reply, ChangesOne, RefusesEvent, 
 use Rattle.machine_core.specs.Opening.{AllBegin}
 use Rattle.machine_core.specs.PagingIn.{PagesInOnce}
 use Rattle.machine_core.specs.SavingOut.{EndsSaving, SavesOnce}
-use Rattle.machine_core.specs.TotalLaws.{get_set_other, get_set_same}
+use Rattle.machine_core.proofs.TotalLaws.{get_set_other, get_set_same}
 use Rattle.machine_core.specs.declared.error.EventRefusal.{EventRefusal}
 use Rattle.machine_core.specs.declared.event.Event.{Event}
 use Rattle.machine_core.specs.declared.event.Event.TheVariants.{Step, Notice, Sweep, Collect, Saved, PageIn, Kill, Purge, Clean, Copy, Cleaned}
@@ -32,7 +32,7 @@ use Rattle.machine_sides.specs.Sides.{PagerSideValue}
 use Rattle.machine_sides.specs.Sweeping.{HeedsVerdict, ReadsBit}
 use Rattle.page_store.specs.JobValue.{SavedValue}
 use Rattle.page_store.specs.declared.state.PageState.TheVariants.{Purged}
-use Rattle.paged_memory.specs.IntactLaws.{again_none, backing_none, comes_none, copied_none, emptied_none, forgets_none, fresh_none, leaves_none, mapped_none, noticed_none, refuses_none, saved_none, used_none}
+use Rattle.paged_memory.proofs.IntactLaws.{again_none, backing_none, comes_none, copied_none, emptied_none, forgets_none, fresh_none, leaves_none, mapped_none, noticed_none, refuses_none, saved_none, used_none}
 use Rattle.paged_memory.specs.Notices.{noticed}
 use Rattle.paged_memory.specs.Paged.{PagedValue}
 use Rattle.paged_memory.specs.Whole.{stage_in}

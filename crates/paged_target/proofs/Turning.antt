@@ -3,7 +3,7 @@ use Rattle.std.proofs.Common.{◌≡◌, ◌<◌, ◌≤◌, ℕ, zero, suc, ◌
 use Rattle.std.proofs.lemmas.Bool.Decides.{leb_tells}
 use Rattle.std.specs.List.{position_from}
 use Rattle.env_calls.specs.Environment.{is_marked, least_live_from}
-use Rattle.env_calls.specs.LiveLaws.{from_mark, least_none}
+use Rattle.env_calls.proofs.LiveLaws.{from_mark, least_none}
 use Rattle.machine_core.specs.Machine.{CoreValue}
 use Rattle.machine_core.specs.Reading.{is_live_in}
 use Rattle.paged_target.specs.Marks.{marks_at, marks_in}

@@ -76,7 +76,7 @@ fn apply(cache: &mut Tlb, change: Change) {
 }
 
 /// A cache with only an entry of page 2, which is ready for loads.
-#[tactic(auto, using(tlb_core::specs::CacheLaws::hits_filled))]
+#[tactic(auto, using(tlb_core::proofs::CacheLaws::hits_filled))]
 fn ready_at(address: u32) -> Tlb
     requires { page_number address ≡ 2 }
 {

@@ -1,7 +1,7 @@
 -- An audit goes through the processes, one lock after another.
 use Rattle.std.proofs.Common.{◌≡◌, ℕ, ◌+◌, List, [], ◌∷◌, ◌++◌, map, sym, ◌∙◌}
 use Rattle.std.proofs.lemmas.List.{length-map}
-use Rattle.machine_sides.specs.AuditLaws.{CountedSo, counted_none, counted_push, sound_all}
+use Rattle.machine_sides.proofs.AuditLaws.{CountedSo, counted_none, counted_push, sound_all}
 use Rattle.machine_sides.specs.Auditing.{CountsMore}
 use Rattle.paged_memory.specs.declared.counting.HeldPages.{HeldPages}
 use Rattle.held_machine.specs.Audit.{HoldsAll, space_in}

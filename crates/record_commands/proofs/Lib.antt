@@ -1,3 +1,4 @@
+pub mod RowLaws
 pub mod Places
 pub mod RowTexts
 pub mod SavedRows

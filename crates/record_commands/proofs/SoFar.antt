@@ -6,7 +6,7 @@ use Rattle.run_records.specs.declared.fingerprint.Fingerprint.{Fingerprint}
 use Rattle.run_records.specs.declared.record.Closing.{Closing}
 use Rattle.record_commands.specs.Exploring.{CameTo, AllCame, IsExplored}
 use Rattle.record_commands.specs.Rows.{Counts, GoesOn, Tallies, times_of}
-use Rattle.record_commands.specs.RowLaws.{all_times}
+use Rattle.record_commands.proofs.RowLaws.{all_times}
 use Rattle.record_commands.specs.Saved.{AreNoted, AreSaved, IsRunOf}
 use Rattle.record_commands.specs.declared.request.ExploreRequest.{ExploreRequest}
 use Rattle.record_commands.specs.declared.row.Row.{Row}

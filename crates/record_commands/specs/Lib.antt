@@ -1,5 +1,4 @@
 pub mod Rows
-pub mod RowLaws
 pub mod Saved
 pub mod Tables
 pub mod Exploring

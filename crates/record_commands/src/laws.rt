@@ -9,14 +9,14 @@ ghost use Rattle.record_commands.specs.Rows.{Tallies, times_of};
 ghost use Rattle.record_commands.specs.declared.row.Row.{Row};
 
 /// Rows count as many runs as there were.
-#[tactic(auto, using(crate::specs::RowLaws::all_times))]
+#[tactic(auto, using(crate::proofs::RowLaws::all_times))]
 pub fn counts_add_up()
     ensures { (until : Option ℕ) (seed : ℕ) (closings : List Closing) (rows : List Row) →
         Tallies until seed closings rows → times_of rows ≡ length closings }
 {}
 
 /// Each row is like some run, whose record replays.
-#[tactic(auto, using(crate::specs::RowLaws::all_rows))]
+#[tactic(auto, using(crate::proofs::RowLaws::all_rows))]
 pub fn rows_come_from_runs()
     ensures { (image : ImageContent) (input : List ℕ) (file : Fingerprint) (until : Option ℕ)
         (seed : ℕ) (closings : List Closing) (rows : List Row) → AllCame image input file closings →

@@ -1,3 +1,6 @@
+pub mod WordLaws
+pub mod LineLaws
+pub mod RoundTripLaws
 pub mod Counting
 pub mod Cuts
 pub mod Ends

@@ -3,7 +3,4 @@ pub mod Prints
 pub mod RecordLines
 pub mod Records
 pub mod Fitting
-pub mod WordLaws
-pub mod LineLaws
-pub mod RoundTripLaws
 pub mod Replaying

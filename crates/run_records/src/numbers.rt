@@ -68,7 +68,7 @@ fn is_padded(text: &[u8]) -> bool
 }
 
 /// The number of 64 bits that decimal digits write.
-#[tactic(auto, using(crate::specs::WordLaws::number_told))]
+#[tactic(auto, using(crate::proofs::WordLaws::number_told))]
 fn numeral_in(digits: &[u8]) -> Option<u64>
     ensures { result ≡ numeral_of digits.now }
 {
@@ -76,7 +76,7 @@ fn numeral_in(digits: &[u8]) -> Option<u64>
 }
 
 /// The number below 2^64 that digits write, where there is nothing but digits, and one at least.
-#[tactic(auto, using(crate::specs::WordLaws::digits_grow))]
+#[tactic(auto, using(crate::proofs::WordLaws::digits_grow))]
 fn numeral(digits: &[u8]) -> Option<u64>
     ensures { SomeIff result (IsNumeral 10 digits.now × (digits_value 10 digits.now < 2 ^ 64))
         (digits_value 10 digits.now) }

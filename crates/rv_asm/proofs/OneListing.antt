@@ -6,7 +6,7 @@ use Rattle.std.proofs.lemmas.Int.{ints}
 use Rattle.std.proofs.lemmas.List.{length-replicate, nil_from_length}
 use Rattle.rv_asm.proofs.ListLemmas.{equal_fronts}
 use Rattle.byteorder.specs.Endian.{little_bytes}
-use Rattle.rv_isa.specs.FormatLaws.{agrees_once}
+use Rattle.rv_isa.proofs.FormatLaws.{agrees_once}
 use Rattle.rv_isa.specs.declared.instruction.Insn.TheVariants.{Lui, OpImmediate, Jal, Branch as BranchInsn}
 use Rattle.rv_isa.specs.declared.kinds.ImmediateKind.TheVariants.{Addi}
 use Rattle.asm_statements.specs.declared.section.Section.TheVariants.{Text, Data}

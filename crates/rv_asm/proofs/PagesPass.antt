@@ -6,7 +6,7 @@ use Rattle.std.specs.List.{range_with_len, list_any}
 use Rattle.std.proofs.lemmas.Bool.Decides.{nat_tests}
 use Rattle.std.proofs.lemmas.List.Folds.{list_any_at, list_any-append}
 use Rattle.std.proofs.lemmas.List.FromFn.{get_or-map-range_with_len, length-map-range_with_len}
-use Rattle.elf_image.specs.ImageLaws.{length-bytes_of}
+use Rattle.elf_image.proofs.ImageLaws.{length-bytes_of}
 use Rattle.page_memory.specs.declared.rights.Rights.{Rights}
 use Rattle.page_memory.specs.declared.words.Access.TheVariants.{Fetch}
 use Rattle.page_memory.specs.Rights.{may, readable}
@@ -14,7 +14,7 @@ use Rattle.page_memory.specs.Words.{page_number}
 use Rattle.elf_image.specs.declared.image.ImagePage.{ImagePage}
 use Rattle.elf_image.specs.Image.{bytes_of}
 use Rattle.elf_image.specs.Parts.{too_high, entered, parts_fault, readable_page, image_of_parts}
-use Rattle.elf_image.specs.PartsLaws.{no_fault_from_pass, neighbours}
+use Rattle.elf_image.proofs.PartsLaws.{no_fault_from_pass, neighbours}
 use Rattle.asm_statements.specs.declared.section.Section.{Section}
 use Rattle.asm_statements.specs.declared.section.Section.TheVariants.{Text, Data}
 use Rattle.rv_asm.specs.declared.label_place.LabelPlace.{LabelPlace}

@@ -26,7 +26,7 @@ use Rattle.rv_asm.specs.Program.{size, address_of}
 use Rattle.rv_asm.specs.SecondPass.{Sections, at_label, load_words, reaches, if_reached, jump_words, branch_words, code_words, datum_bytes, next_address, put, put_all, no_sections, second_pass}
 use Rattle.rv_asm.specs.Assembly.{Lacks, IsSplit, PutsWords, PutsBytes, TextAt, DataAt, HoldsParts, HasPut, code_label, datum_label, TooFar, PartFault, no_label, no_datum_label, too_far}
 use Rattle.rv_isa.specs.Split.{upper_part, low_part}
-use Rattle.rv_isa.specs.SplitLaws.{low_part_small, low_part_large, low_part_fits}
+use Rattle.rv_isa.proofs.SplitLaws.{low_part_small, low_part_large, low_part_fits}
 use Rattle.rv_asm.proofs.Places.{size_push}
 use Rattle.rv_asm.proofs.LabelLaws.{address_found, no_address}
 use Rattle.rv_asm.proofs.SecondSteps.{put_length, pass_length}

@@ -52,7 +52,7 @@ pub fn perform_load<B: Bus>(
 
 /// Loads from an address into rd.
 #[inline(always)]
-#[tactic(auto, using(crate::specs::AccessLaws::loading, crate::specs::LeavesLaws::loading_leaves), unfolding(crate::specs::Uses::load_pages, crate::specs::Uses::store_pages, crate::specs::Uses::amo_pages))]
+#[tactic(auto, using(crate::proofs::AccessLaws::loading, crate::proofs::LeavesLaws::loading_leaves), unfolding(crate::specs::Uses::load_pages, crate::specs::Uses::store_pages, crate::specs::Uses::amo_pages))]
 fn load_from<B: Bus>(
     pc: &mut u32,
     regs: &mut Regs,
@@ -119,7 +119,7 @@ pub fn perform_store<B: Bus>(
 
 /// Stores the low bytes of a word at an address.
 #[inline(always)]
-#[tactic(auto, using(crate::specs::AccessLaws::storing), unfolding(crate::specs::Uses::load_pages, crate::specs::Uses::store_pages, crate::specs::Uses::amo_pages))]
+#[tactic(auto, using(crate::proofs::AccessLaws::storing), unfolding(crate::specs::Uses::load_pages, crate::specs::Uses::store_pages, crate::specs::Uses::amo_pages))]
 fn store_to<B: Bus>(
     pc: &mut u32,
     regs: &mut Regs,
@@ -150,7 +150,7 @@ fn store_to<B: Bus>(
 
 /// Replaces the word at an address by the operation's result, and keeps the old word in rd.
 #[inline(always)]
-#[tactic(auto, using(crate::specs::AccessLaws::replacing), unfolding(crate::specs::Uses::load_pages, crate::specs::Uses::store_pages, crate::specs::Uses::amo_pages))]
+#[tactic(auto, using(crate::proofs::AccessLaws::replacing), unfolding(crate::specs::Uses::load_pages, crate::specs::Uses::store_pages, crate::specs::Uses::amo_pages))]
 pub fn perform_amo<B: Bus>(
     pc: &mut u32,
     regs: &mut Regs,
@@ -182,7 +182,7 @@ pub fn perform_amo<B: Bus>(
 
 /// Loads the word at an address into rd, and reserves it for the hart.
 #[inline(always)]
-#[tactic(auto, using(crate::specs::AccessLaws::reserving_word, crate::specs::LeavesLaws::loading_leaves), unfolding(crate::specs::Uses::load_pages, crate::specs::Uses::store_pages))]
+#[tactic(auto, using(crate::proofs::AccessLaws::reserving_word, crate::proofs::LeavesLaws::loading_leaves), unfolding(crate::specs::Uses::load_pages, crate::specs::Uses::store_pages))]
 pub fn perform_load_reserved<B: Bus>(
     hart: u32,
     pc: &mut u32,
@@ -213,7 +213,7 @@ pub fn perform_load_reserved<B: Bus>(
 
 /// Stores a word at an address where the hart has reserved it, and writes to rd whether it has not.
 #[inline(always)]
-#[tactic(auto, using(crate::specs::AccessLaws::storing_word), unfolding(crate::specs::Uses::load_pages, crate::specs::Uses::store_pages))]
+#[tactic(auto, using(crate::proofs::AccessLaws::storing_word), unfolding(crate::specs::Uses::load_pages, crate::specs::Uses::store_pages))]
 pub fn perform_store_conditional<B: Bus>(
     hart: u32,
     pc: &mut u32,

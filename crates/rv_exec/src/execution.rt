@@ -115,7 +115,7 @@ fn perform<B: Bus>(hart: u32, pc: &mut u32, regs: &mut Regs, bus: &mut B, word: 
 
 /// Does what the table says of a word of a form.
 #[inline(always)]
-#[tactic(auto, using(crate::specs::LeavesLaws::leaves_no_data))]
+#[tactic(auto, using(crate::proofs::LeavesLaws::leaves_no_data))]
 fn perform_form<B: Bus>(
     hart: u32,
     pc: &mut u32,

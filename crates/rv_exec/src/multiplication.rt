@@ -6,7 +6,7 @@ ghost use Rattle.rv_exec.specs.Arithmetic.{unsigned_remainder};
 
 /// The high word of the product of two signed words.
 #[inline]
-#[tactic(auto, using(crate::specs::ArithmeticLaws::product_fits))]
+#[tactic(auto, using(crate::proofs::ArithmeticLaws::product_fits))]
 pub fn multiply_high(a: u32, b: u32) -> u32
     ensures { result ≡ high_word (signed_word a *ℤ signed_word b) }
 {
@@ -15,7 +15,7 @@ pub fn multiply_high(a: u32, b: u32) -> u32
 
 /// The high word of the product of a signed word and an unsigned one.
 #[inline]
-#[tactic(auto, using(crate::specs::ArithmeticLaws::mixed_product_fits))]
+#[tactic(auto, using(crate::proofs::ArithmeticLaws::mixed_product_fits))]
 pub fn multiply_high_mixed(a: u32, b: u32) -> u32
     ensures { result ≡ high_word (signed_word a *ℤ pos b) }
 {
@@ -24,7 +24,7 @@ pub fn multiply_high_mixed(a: u32, b: u32) -> u32
 
 /// The high word of the product of two unsigned words.
 #[inline]
-#[tactic(auto, using(crate::specs::ArithmeticLaws::unsigned_product_fits))]
+#[tactic(auto, using(crate::proofs::ArithmeticLaws::unsigned_product_fits))]
 pub fn multiply_high_unsigned(a: u32, b: u32) -> u32
     ensures { result ≡ a * b / 2 ^ 32 }
 {

@@ -18,7 +18,7 @@ use super::opcodes;
 
 /// The instruction that a word stands for, or `None` for a word outside RV32I, M and A (unprivileged manual).
 #[inline(always)]
-#[tactic(auto, using(crate::specs::TableLaws::found_agrees, crate::specs::TableLaws::only_agreeing))]
+#[tactic(auto, using(crate::proofs::TableLaws::found_agrees, crate::proofs::TableLaws::only_agreeing))]
 pub fn decode(word: u32) -> Option<Insn>
     ensures value { result ≡ insn_of word }
     ensures found { IfSome result (Agrees word) }

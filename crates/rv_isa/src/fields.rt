@@ -10,7 +10,7 @@ use super::operands::{
 
 /// Bits `high` to `low` of a word, as a number.
 #[inline(always)]
-#[tactic(auto, using(crate::specs::BitsLaws::bits_field), unfolding(crate::specs::Bits::bits))]
+#[tactic(auto, using(crate::proofs::BitsLaws::bits_field), unfolding(crate::specs::Bits::bits))]
 pub(crate) fn field(word: u32, high: u32, low: u32) -> u32
     requires order { low ≤ high }
     requires within { high < 32 }

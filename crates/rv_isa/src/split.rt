@@ -14,7 +14,7 @@ pub fn high_part(word: u32) -> UpperImmediate
 }
 
 /// The low twelve bits of a word, taken signed.
-#[tactic(auto, using(crate::specs::SplitLaws::low_part_small, crate::specs::SplitLaws::low_part_large))]
+#[tactic(auto, using(crate::proofs::SplitLaws::low_part_small, crate::proofs::SplitLaws::low_part_large))]
 pub fn low_part(word: u32) -> Immediate
     ensures { result ≡ low_part word }
 {

@@ -5,7 +5,7 @@ use Rattle.flat_machine.specs.Schedule.{written_out}
 use Rattle.machine_core.specs.ApplyingLaws.{runs_none, runs_one, runs_on}
 use Rattle.machine_core.specs.Headline.{adds, has_run, HappensInvisibly, Remains}
 use Rattle.machine_core.specs.Machine.{CoreValue}
-use Rattle.machine_core.specs.OrderLaws.{still_remains}
+use Rattle.machine_core.proofs.OrderLaws.{still_remains}
 use Rattle.machine_core.specs.declared.error.EventRefusal.{EventRefusal}
 use Rattle.machine_core.specs.declared.error.EventRefusal.TheVariants as refusal
 use Rattle.machine_core.specs.declared.event.Event.{Event}

@@ -9,7 +9,7 @@ use Rattle.machine_sides.specs.declared.report.Report.{Report}
 use Rattle.machine_core.specs.Applying.{LeadsTo}
 use Rattle.machine_core.specs.Faithful.{IsFaithful}
 use Rattle.machine_core.specs.Headline.{ShowsFlatRun}
-use Rattle.machine_core.specs.InvisibleLaws.{run_invisible}
+use Rattle.machine_core.proofs.InvisibleLaws.{run_invisible}
 use Rattle.machine_core.specs.Machine.{CoreValue}
 use Rattle.machine_core.specs.Opening.{MachineBegins}
 use Rattle.elf_image.specs.Start.{Start}

@@ -1,3 +1,4 @@
+pub mod WholeLaws
 pub mod Bringing
 pub mod Closed
 pub mod Endings

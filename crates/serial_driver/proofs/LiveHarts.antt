@@ -2,16 +2,16 @@
 use Rattle.std.proofs.Common.{◌≡◌, ℕ, ◌<◌, ◌≤◌, ◌&&◌, Bool, true, false, List, length, Option, Some, None, IsSome, slice_get, inl, inr, refl, arith}
 use Rattle.std.specs.Prelude.{slice_index_or}
 use Rattle.env_calls.specs.Environment.{any_live, next_live}
-use Rattle.env_calls.specs.LiveLaws.{next_is_live, next_is_some}
+use Rattle.env_calls.proofs.LiveLaws.{next_is_live, next_is_some}
 use Rattle.flat_machine.specs.Schedule.{written_out}
-use Rattle.flat_machine.specs.StepLaws.{marked_within}
+use Rattle.flat_machine.proofs.StepLaws.{marked_within}
 use Rattle.machine_core.specs.Coherent.{EachCoherent}
 use Rattle.machine_core.specs.Machine.{CoreValue}
 use Rattle.machine_core.specs.Reading.{is_live_in}
 use Rattle.space_core.specs.StandsFor.{SpaceValue, flat_with}
 use Rattle.serial_driver.specs.Closing.{goes_on}
 use Rattle.serial_driver.specs.Rounds.{IsFirst, IsNextProcess, NoneAbove}
-use Rattle.serial_driver.specs.WholeLaws.{whole_from_opening}
+use Rattle.serial_driver.proofs.WholeLaws.{whole_from_opening}
 
 which : (o : Option ℕ) → IsSome o → (n : ℕ) × (o ≡ Some n)
 which None some = cc

@@ -16,7 +16,7 @@ use Rattle.machine_core.specs.Applying.{Applies}
 use Rattle.machine_core.specs.CollectEvent.{CollectsTo, not_yet, freed, dirty, no_slot, no_memory}
 use Rattle.machine_core.specs.Machine.{CoreValue}
 use Rattle.machine_core.specs.MachineRun.{RefusesEvent, StepsHart}
-use Rattle.machine_core.specs.TotalLaws.{get_set_same, get_set_other}
+use Rattle.machine_core.proofs.TotalLaws.{get_set_same, get_set_other}
 use Rattle.machine_core.specs.declared.error.EventRefusal.{EventRefusal}
 use Rattle.machine_core.specs.declared.event.Event.{Event}
 use Rattle.machine_core.specs.declared.event.Event.TheVariants.{Step, Notice, Sweep, Collect, Saved, PageIn, Kill, Purge, Clean, Copy, Cleaned}

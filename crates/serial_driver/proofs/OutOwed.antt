@@ -7,12 +7,12 @@ use Rattle.clock_policy.specs.declared.key.Key.{Key}
 use Rattle.flat_machine.specs.declared.end.KillCause.{KillCause}
 use Rattle.flat_machine.specs.declared.end.KillCause.TheVariants as cause
 use Rattle.page_store.specs.JobValue.{JobValue}
-use Rattle.paged_memory.specs.AmongLaws.{some_saving}
+use Rattle.paged_memory.proofs.AmongLaws.{some_saving}
 use Rattle.space_core.specs.StandsFor.{SpaceValue}
 use Rattle.paged_memory.specs.Stages.{is_saving_stage}
 use Rattle.paged_memory.specs.Whole.{stage_in}
 use Rattle.machine_sides.specs.SavingBack.{is_saving_at}
-use Rattle.machine_sides.specs.StageLaws.{stage_below}
+use Rattle.machine_sides.proofs.StageLaws.{stage_below}
 use Rattle.machine_sides.specs.Together.{key_of, savings_in}
 use Rattle.machine_core.specs.declared.error.EventRefusal.{EventRefusal}
 use Rattle.machine_core.specs.declared.error.EventRefusal.TheVariants as refusal
@@ -25,7 +25,7 @@ use Rattle.machine_core.specs.Faithful.{IsFaithful}
 use Rattle.machine_core.specs.Machine.{CoreValue, IsMachine, IsSaveOut, jobs_where, total}
 use Rattle.machine_core.specs.MachineRun.{of_process}
 use Rattle.machine_core.specs.SavingOut.{saved_refusal, saving_reason}
-use Rattle.machine_core.specs.TotalLaws.{total_at}
+use Rattle.machine_core.proofs.TotalLaws.{total_at}
 use Rattle.serial_driver.specs.Limit.{ComeInTurn, DoesSave, PlaysUpTo, SavesNone}
 use Rattle.serial_driver.specs.Owing.{Duty, Pays, ArePaid, collect_owes, duty_after, duty_with, is_damaged, is_device, is_dirty, is_full, is_going_on, is_out_of_memory, load_owes, most_load_faults, next_owed, no_duty, owed_save, save_owes, step_owes, stop_owes}
 use Rattle.serial_driver.specs.Turning.{EndsProcess, IsInTurn}

@@ -13,4 +13,3 @@ pub mod StepsLimit
 pub mod Turning
 pub mod TurnsDuty
 pub mod Watched
-pub mod WholeLaws

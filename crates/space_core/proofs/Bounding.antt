@@ -5,7 +5,7 @@ use Rattle.rv_exec.specs.Bounds.{Pass, Bounds}
 use Rattle.rv_exec.specs.Registers.{Registers}
 use Rattle.env_calls.specs.Step.{step_pages, step_stores}
 use Rattle.flat_machine.specs.Process.{Process, hart_registers, flat_run}
-use Rattle.flat_machine.specs.RunLaws.{flat_run_none, flat_run_append}
+use Rattle.flat_machine.proofs.RunLaws.{flat_run_none, flat_run_append}
 use Rattle.space_core.specs.Next.{next_pages, next_stores}
 use Rattle.space_core.specs.Slices.{BoundsEach}
 use Rattle.space_core.proofs.StepMoves.{pages_are}

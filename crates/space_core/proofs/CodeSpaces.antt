@@ -15,10 +15,10 @@ use Rattle.paged_memory.specs.Moving.{OnlyCaches, OnlyPages, GivesIn, SameCaches
 use Rattle.paged_memory.specs.Notices.{emptied}
 use Rattle.paged_memory.specs.Paged.{PagedValue, memory_of}
 use Rattle.paged_memory.specs.Showing.{KeepsGivenUp}
-use Rattle.paged_memory.specs.UsingLaws.{caches_shown}
+use Rattle.paged_memory.proofs.UsingLaws.{caches_shown}
 use Rattle.paged_memory.specs.Whole.{harts_in}
 use Rattle.flat_machine.specs.Process.{may_step}
-use Rattle.flat_machine.specs.StepLaws.{has_no_ending}
+use Rattle.flat_machine.proofs.StepLaws.{has_no_ending}
 use Rattle.space_core.specs.RunningValue.{RecordedValue}
 use Rattle.space_core.specs.Slicing.{shown_process}
 use Rattle.space_core.specs.StandsFor.{SpaceValue, IsSpace, IsDecodedSpace}

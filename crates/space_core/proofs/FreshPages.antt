@@ -3,15 +3,15 @@ use Rattle.std.proofs.Common.{◌≡◌, ◌+◌, ◌-◌, ◌<◌, ◌∷◌, [
 use Rattle.std.specs.List.{range_with_len}
 use Rattle.page_memory.specs.Pages.{Page, zero_page}
 use Rattle.page_memory.specs.Entries.{place_of, added, with_added}
-use Rattle.page_memory.specs.EntriesLaws.{no_place, added_behind}
+use Rattle.page_memory.proofs.EntriesLaws.{no_place, added_behind}
 use Rattle.elf_image.specs.declared.image.ImagePage.{ImagePage}
 use Rattle.elf_image.specs.Image.{ArePages}
 use Rattle.paged_memory.specs.Paged.{PagedValue}
 use Rattle.flat_machine.specs.Process.{image_entry, stack_entry, opening_pages}
-use Rattle.flat_machine.specs.PlainRunLaws.{next_is}
-use Rattle.flat_machine.specs.PagesLaws.{KeysBelow, unmapped, images_below, stack_below, one_more_image, one_more_stack}
+use Rattle.flat_machine.proofs.PlainRunLaws.{next_is}
+use Rattle.flat_machine.proofs.PagesLaws.{KeysBelow, unmapped, images_below, stack_below, one_more_image, one_more_stack}
 use Rattle.paged_memory.specs.Fresh.{HasFresh, IsUnmapped, AddsFresh, AddsZeros, AddsHart, MapsFresh}
-use Rattle.paged_memory.specs.FreshLaws.{unmapped_fresh, maps_one_more, maps_zeros, hart_fresh}
+use Rattle.paged_memory.proofs.FreshLaws.{unmapped_fresh, maps_one_more, maps_zeros, hart_fresh}
 
 -- the pages of an image, and so many of the stack
 so_far : List ImagePage → ℕ → List (ℕ × Page)

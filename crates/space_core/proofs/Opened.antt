@@ -7,14 +7,14 @@ use Rattle.page_memory.specs.Memory.{Memory, unreserved}
 use Rattle.decoded_pages.specs.declared.pages.DecodedPages.{DecodedPages}
 use Rattle.decoded_pages.specs.Code.{ShowsAll}
 use Rattle.flat_machine.specs.ImageCode.{HasImage}
-use Rattle.flat_machine.specs.OpeningLaws.{image_page_at}
+use Rattle.flat_machine.proofs.OpeningLaws.{image_page_at}
 use Rattle.page_memory.specs.Reservations.{none_reserved}
-use Rattle.paged_memory.specs.FreshLaws.{fresh_shown}
+use Rattle.paged_memory.proofs.FreshLaws.{fresh_shown}
 use Rattle.paged_memory.specs.Paged.{PagedValue, memory_of}
-use Rattle.paged_memory.specs.ShowingLaws.{shows_itself}
+use Rattle.paged_memory.proofs.ShowingLaws.{shows_itself}
 use Rattle.flat_machine.specs.Process.{Process, opening, opening_pages, flat_run}
 use Rattle.flat_machine.specs.Schedule.{written_out}
-use Rattle.flat_machine.specs.RunLaws.{flat_run_none}
+use Rattle.flat_machine.proofs.RunLaws.{flat_run_none}
 use Rattle.space_core.specs.RunningValue.{RunningValue, beside}
 use Rattle.space_core.specs.StandsFor.{SpaceValue, StandsFor, IsSpace, IsDecodedSpace, flat_with}
 use Rattle.paged_memory.specs.Fresh.{HasFresh, HasOneCache}

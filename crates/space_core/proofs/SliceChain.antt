@@ -6,9 +6,9 @@ use Rattle.std.proofs.lemmas.Option.{none-some, same_Some}
 use Rattle.std.proofs.lemmas.List.{replicate-append-replicate}
 use Rattle.rv_exec.specs.Outcomes.{Used}
 use Rattle.flat_machine.specs.Process.{Process, is_live, may_step, flat_run}
-use Rattle.flat_machine.specs.RunLaws.{flat_run_none, flat_run_append}
+use Rattle.flat_machine.proofs.RunLaws.{flat_run_none, flat_run_append}
 use Rattle.flat_machine.specs.Schedule.{written_out, room}
-use Rattle.flat_machine.specs.StepLaws.{both, has_no_ending}
+use Rattle.flat_machine.proofs.StepLaws.{both, has_no_ending}
 use Rattle.paged_memory.specs.CopiesLaws.{copies_itself, copies_on}
 use Rattle.paged_memory.specs.HartMemory.{MarksSince}
 use Rattle.paged_memory.specs.Missing.{TakesIn}
@@ -29,7 +29,7 @@ use Rattle.space_core.proofs.Bounding.{bound_none, bound_then, bound_as}
 use Rattle.space_core.proofs.SliceMoves.{each_none, each_append, used_on}
 use Rattle.paged_memory.specs.Using.{cache_in, HasIn, LacksIn, MarkedIn}
 use Rattle.paged_memory.specs.HartMemoryLaws.{served_before}
-use Rattle.paged_memory.specs.UsingLaws.{goes_itself_in, goes_on_in, kept_itself, kept_on, lacked_in, resident_in}
+use Rattle.paged_memory.proofs.UsingLaws.{goes_itself_in, goes_on_in, kept_itself, kept_on, lacked_in, resident_in}
 
 -- ---- so many, and then more
 

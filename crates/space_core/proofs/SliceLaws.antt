@@ -13,7 +13,7 @@ use Rattle.space_core.specs.declared.progress.SliceStop.TheVariants.{Budget, Abs
 use Rattle.space_core.specs.Slicing.{OthersStay, SettlesCaches, LeavesCaches}
 use Rattle.paged_memory.specs.Using.{HoldsNone, SameCache}
 use Rattle.paged_memory.specs.Moving.{SameEntries}
-use Rattle.paged_memory.specs.UsingLaws.{goes_same, same_held}
+use Rattle.paged_memory.proofs.UsingLaws.{goes_same, same_held}
 
 -- ---- no hart that was started goes
 

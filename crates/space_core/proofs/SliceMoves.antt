@@ -6,11 +6,11 @@ use Rattle.std.proofs.lemmas.List.{get_or_append_left, replicate-append-replicat
 use Rattle.rv_exec.specs.Registers.{Registers}
 use Rattle.rv_exec.specs.Outcomes.{Used}
 use Rattle.env_calls.specs.Effect.{Effect, Runs, Yields, Spawns, Finishes, Exits, Traps}
-use Rattle.env_calls.specs.LiveLaws.{MarksAfter, marks_after}
+use Rattle.env_calls.proofs.LiveLaws.{MarksAfter, marks_after}
 use Rattle.env_calls.specs.Step.{effect}
 use Rattle.flat_machine.specs.Process.{Process, hart_registers, is_live, may_step, stepped, after, flat_step, flat_run}
-use Rattle.flat_machine.specs.RunLaws.{flat_run_append}
-use Rattle.flat_machine.specs.StepLaws.{both, has_no_ending, goes_on_alike, may_step_when_live, marked_within}
+use Rattle.flat_machine.proofs.RunLaws.{flat_run_append}
+use Rattle.flat_machine.proofs.StepLaws.{both, has_no_ending, goes_on_alike, may_step_when_live, marked_within}
 use Rattle.space_core.specs.declared.progress.Progress.{Progress}
 use Rattle.space_core.specs.declared.progress.SliceStop.TheVariants as stop
 use Rattle.space_core.specs.Next.{next_effect, next_progress, progress_of, stop_after}

@@ -4,7 +4,7 @@ use Rattle.std.specs.Option.{option_or}
 use Rattle.std.proofs.lemmas.Option.{none-some}
 use Rattle.paged_memory.specs.Paged.{memory_of}
 use Rattle.paged_memory.specs.Showing.{KeepsGivenUp}
-use Rattle.paged_memory.specs.ShowingLaws.{shows_itself, shows_on}
+use Rattle.paged_memory.proofs.ShowingLaws.{shows_itself, shows_on}
 use Rattle.rv_exec.specs.Registers.{Registers}
 use Rattle.env_calls.specs.Effect.{Effect, Runs, Yields, Spawns, Finishes, Exits, Traps}
 use Rattle.env_calls.specs.Step.{effect}
@@ -12,7 +12,7 @@ use Rattle.flat_machine.specs.declared.end.End.{End}
 use Rattle.flat_machine.specs.declared.end.End.TheVariants.{Killed}
 use Rattle.flat_machine.specs.declared.end.KillCause.{KillCause}
 use Rattle.flat_machine.specs.Process.{Process, opening, hart_registers, is_live, may_step, stepped, after, flat_step, flat_run}
-use Rattle.flat_machine.specs.RunLaws.{flat_run_append}
+use Rattle.flat_machine.proofs.RunLaws.{flat_run_append}
 use Rattle.flat_machine.specs.Schedule.{written_out}
 use Rattle.space_core.specs.RunningValue.{RunningValue, with_memory, beside}
 use Rattle.space_core.specs.StandsFor.{SpaceValue, own_ending, flat_with, StandsFor}

@@ -16,23 +16,23 @@ use Rattle.env_calls.specs.declared.stepping.Stepped.{Stepped}
 use Rattle.env_calls.specs.declared.stepping.Stepped.TheVariants as stepped
 use Rattle.env_calls.specs.Environment.{Environment}
 use Rattle.env_calls.specs.Finishing.{RestUses, CameTo, IsRest, IsStep}
-use Rattle.env_calls.specs.FinishingLaws.{step_then}
+use Rattle.env_calls.proofs.FinishingLaws.{step_then}
 use Rattle.env_calls.specs.Leaving.{LeavesRest}
-use Rattle.env_calls.specs.LeavingLaws.{leaves_then, stores_next}
+use Rattle.env_calls.proofs.LeavingLaws.{leaves_then, stores_next}
 use Rattle.env_calls.specs.Serving.{UsesPages}
-use Rattle.env_calls.specs.StepLaws.{effect_next, used_next, bound_first}
+use Rattle.env_calls.proofs.StepLaws.{effect_next, used_next, bound_first}
 use Rattle.flat_machine.specs.declared.end.End.{End}
 use Rattle.flat_machine.specs.Process.{Process, IsWhole, may_step}
-use Rattle.flat_machine.specs.RunLaws.{flat_run_none, one_more_step}
+use Rattle.flat_machine.proofs.RunLaws.{flat_run_none, one_more_step}
 use Rattle.flat_machine.specs.Settling.{harts_after, ending_after, IfSpawns}
-use Rattle.flat_machine.specs.SettlingLaws.{room_to_spawn, settled, harts_stay}
+use Rattle.flat_machine.proofs.SettlingLaws.{room_to_spawn, settled, harts_stay}
 use Rattle.paged_memory.specs.HartMemory.{KeepsAccess, MarksSince}
 use Rattle.paged_memory.specs.HartMemoryLaws.{access_on, served_before}
 use Rattle.paged_memory.specs.Missing.{MissesIn, TakesIn}
 use Rattle.paged_memory.specs.MissingLaws.{takes_kept}
 use Rattle.paged_memory.specs.Paged.{PagedValue, memory_of}
 use Rattle.paged_memory.specs.Using.{cache_in, HasIn, LacksIn, MarkedIn}
-use Rattle.paged_memory.specs.UsingLaws.{lacked_in, had_in}
+use Rattle.paged_memory.proofs.UsingLaws.{lacked_in, had_in}
 use Rattle.space_core.specs.declared.progress.Progress.{Progress}
 use Rattle.space_core.specs.declared.progress.Progress.TheVariants as progress
 use Rattle.space_core.specs.declared.progress.SliceStop.{SliceStop}

@@ -16,8 +16,8 @@ use Rattle.env_calls.specs.Stepping.{IsEffect}
 use Rattle.flat_machine.specs.declared.end.End.{End}
 use Rattle.flat_machine.specs.Process.{Process, IsWhole, hart_registers, may_step}
 use Rattle.flat_machine.specs.Refusals.{WantsMemory}
-use Rattle.flat_machine.specs.StepLaws.{started}
-use Rattle.flat_machine.specs.SettlingLaws.{harts_stay}
+use Rattle.flat_machine.proofs.StepLaws.{started}
+use Rattle.flat_machine.proofs.SettlingLaws.{harts_stay}
 use Rattle.space_core.specs.declared.progress.Progress.{Progress}
 use Rattle.space_core.specs.RunningValue.{RunningValue, with_memory}
 use Rattle.space_core.specs.Next.{next_effect, next_progress, next_pages, progress_of, progress_of_step}

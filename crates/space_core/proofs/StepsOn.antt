@@ -11,11 +11,11 @@ use Rattle.rv_exec.specs.Outcomes.{Used}
 use Rattle.rv_exec.specs.Registers.{Registers}
 use Rattle.flat_machine.specs.declared.schedule.Turn.{Turn}
 use Rattle.flat_machine.specs.Process.{Process, IsWhole, may_step, flat_run}
-use Rattle.flat_machine.specs.PlainRunLaws.{next_is}
-use Rattle.flat_machine.specs.RunLaws.{flat_run_none}
+use Rattle.flat_machine.proofs.PlainRunLaws.{next_is}
+use Rattle.flat_machine.proofs.RunLaws.{flat_run_none}
 use Rattle.flat_machine.specs.Schedule.{written_out, room}
-use Rattle.flat_machine.specs.StepLaws.{started}
-use Rattle.flat_machine.specs.TurnsLaws.{one_more}
+use Rattle.flat_machine.proofs.StepLaws.{started}
+use Rattle.flat_machine.proofs.TurnsLaws.{one_more}
 use Rattle.paged_memory.specs.Coheres.{Coheres}
 use Rattle.paged_memory.specs.Copies.{KeepsCopies}
 use Rattle.paged_memory.specs.HartMemory.{MarksSince}
@@ -23,9 +23,9 @@ use Rattle.paged_memory.specs.HartMemoryLaws.{access_itself}
 use Rattle.paged_memory.specs.Missing.{TakesIn}
 use Rattle.paged_memory.specs.Moving.{OnlyCaches, SameTablesIn}
 use Rattle.paged_memory.specs.Paged.{PagedValue, memory_of}
-use Rattle.paged_memory.specs.ShowingLaws.{used_given_up}
+use Rattle.paged_memory.proofs.ShowingLaws.{used_given_up}
 use Rattle.paged_memory.specs.Using.{cache_in, HasIn, LacksIn, MarkedIn, KeepsIn}
-use Rattle.paged_memory.specs.UsingLaws.{caches_shown, caches_marks, same_marks}
+use Rattle.paged_memory.proofs.UsingLaws.{caches_shown, caches_marks, same_marks}
 use Rattle.paged_memory.specs.Whole.{is_used_in, is_dirty_in, harts_in}
 use Rattle.space_core.specs.declared.progress.Slice.{Slice}
 use Rattle.space_core.specs.declared.progress.SliceStop.{SliceStop}

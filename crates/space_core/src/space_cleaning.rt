@@ -37,7 +37,7 @@ impl<L: Ledger, S: SwapSlot> Space<L, S> {
     /// Copies a page that is being cleaned, unless a store was made since the cleaning began, or a cache lets one be made that
     /// no dirty bit would tell of. A page without a slot takes the spare one. No page of a process that has ended is being
     /// cleaned. Takes no memory.
-    #[tactic(auto, using(paged_memory::specs::CopiesToldLaws::leaves_itself))]
+    #[tactic(auto, using(paged_memory::proofs::CopiesToldLaws::leaves_itself))]
     pub fn copy_clean(&mut self, vpn: u32, spare: &mut Option<S>) -> CleanCopy<S>
         requires { vpn < 2 ^ 20 }
         ensures answer { IsNone self.old.running.ending → CopiesPage vpn spare.old spare.new result

@@ -127,7 +127,7 @@ impl<L: Ledger, S: SwapSlot> Space<L, S> {
 
     /// The same where it is known that no page before `from` has anything. With what the page had comes the number from which
     /// on others may have something still, so that whoever takes all looks at each page once.
-    #[tactic(auto, using(paged_memory::specs::CopiesToldLaws::leaves_itself))]
+    #[tactic(auto, using(paged_memory::proofs::CopiesToldLaws::leaves_itself))]
     pub fn take_from(&mut self, from: u32) -> Option<((Option<Frame<L>>, Option<S>), u32)>
         requires { HasNothingBelow from self.old.memory }
         ensures given { IfSome result (λ taken. GivesIn taken.0 self.old.memory self.new.memory) }

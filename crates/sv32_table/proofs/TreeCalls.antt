@@ -16,12 +16,12 @@ use Rattle.page_memory.specs.declared.rights.Rights.{Rights}
 use Rattle.sv32_table.specs.Entry.{Entry, allows, entry_of, word_of, shape_of, touched, blank, leaf_entry, page_entry}
 use Rattle.sv32_table.specs.Tables.{IsSized, root_page, word_in, table_for, zero_table, pointed_by, mapped, marked, found, walked}
 use Rattle.sv32_table.specs.EntryAt.{is_leaf, entry_in, entry_at, pointed, IsTree, walk_entry, walked_entry, unmapped_entry, unaccessed_entry, undirtied_entry, valid_word, accessed_of, dirty_mark_of, dirty_of, ChangesEntry, has_table, SameTables, AddsTable}
-use Rattle.sv32_table.specs.EntryWordLaws.{entry_of-word_of, software_small}
+use Rattle.sv32_table.proofs.EntryWordLaws.{entry_of-word_of, software_small}
 use Rattle.sv32_table.specs.Leading.{walk_leads, LeadsByEntry}
 use Rattle.sv32_table.specs.TranslationProcess.{Success, Words, FollowsProcess, IsTranslation, physical_words, translate}
 use Rattle.sv32_table.proofs.Translation.{walk_is_translation}
-use Rattle.sv32_table.specs.WriteLaws.{table_for-pointed, few_tables, pointers_below-none}
-use Rattle.sv32_table.specs.EntryChangeLaws.{AddsTable-mapped, SameTables-marked, IsTree-mapped, entry_at-mapped, IsTree-marked, entry_at-marked, found-entry_at, walk_by_entry}
+use Rattle.sv32_table.proofs.WriteLaws.{table_for-pointed, few_tables, pointers_below-none}
+use Rattle.sv32_table.proofs.EntryChangeLaws.{AddsTable-mapped, SameTables-marked, IsTree-mapped, entry_at-mapped, IsTree-marked, entry_at-marked, found-entry_at, walk_by_entry}
 
 -- the root alone
 root_word : (index : ℕ) → index < 1024 → word_in (zero_table ∷ []) 0 index ≡ 0

@@ -70,7 +70,7 @@ impl Pte {
     }
 
     /// The leaf of a user page with D as given.
-    #[tactic(auto, using(crate::specs::EntryLaws::leaf_with_dirty, crate::specs::EntryLaws::leaf_without_dirty))]
+    #[tactic(auto, using(crate::proofs::EntryLaws::leaf_with_dirty, crate::proofs::EntryLaws::leaf_without_dirty))]
     pub(crate) fn page(ppn: u32, rights: Rights, accessed: bool, dirty: bool) -> Pte
         requires { ppn < 2 ^ 22 }
         ensures { result.0 ≡ word_of (page_entry ppn rights accessed dirty) }
@@ -89,7 +89,7 @@ impl Pte {
     }
 
     /// The physical page number.
-    #[tactic(auto, using(crate::specs::EntryWordLaws::ppn_part))]
+    #[tactic(auto, using(crate::proofs::EntryWordLaws::ppn_part))]
     pub fn ppn(self) -> u32
         ensures ppn { result ≡ (entry_of self.0).ppn }
         ensures small { result < 2 ^ 22 }
@@ -97,49 +97,49 @@ impl Pte {
         self.0 / 1024
     }
 
-    #[tactic(auto, using(crate::specs::EntryWordLaws::valid_flag))]
+    #[tactic(auto, using(crate::proofs::EntryWordLaws::valid_flag))]
     pub(crate) fn is_valid(self) -> bool
         ensures { result ≡ (entry_of self.0).valid }
     {
         self.contains(Pte::VALID)
     }
 
-    #[tactic(auto, using(crate::specs::EntryWordLaws::read_flag))]
+    #[tactic(auto, using(crate::proofs::EntryWordLaws::read_flag))]
     pub(crate) fn is_readable(self) -> bool
         ensures { result ≡ (entry_of self.0).read }
     {
         self.contains(Pte::READ)
     }
 
-    #[tactic(auto, using(crate::specs::EntryWordLaws::write_flag))]
+    #[tactic(auto, using(crate::proofs::EntryWordLaws::write_flag))]
     pub(crate) fn is_writable(self) -> bool
         ensures { result ≡ (entry_of self.0).write }
     {
         self.contains(Pte::WRITE)
     }
 
-    #[tactic(auto, using(crate::specs::EntryWordLaws::execute_flag))]
+    #[tactic(auto, using(crate::proofs::EntryWordLaws::execute_flag))]
     pub(crate) fn is_executable(self) -> bool
         ensures { result ≡ (entry_of self.0).execute }
     {
         self.contains(Pte::EXECUTE)
     }
 
-    #[tactic(auto, using(crate::specs::EntryWordLaws::user_flag))]
+    #[tactic(auto, using(crate::proofs::EntryWordLaws::user_flag))]
     pub(crate) fn is_user(self) -> bool
         ensures { result ≡ (entry_of self.0).user }
     {
         self.contains(Pte::USER)
     }
 
-    #[tactic(auto, using(crate::specs::EntryWordLaws::accessed_flag))]
+    #[tactic(auto, using(crate::proofs::EntryWordLaws::accessed_flag))]
     pub fn is_accessed(self) -> bool
         ensures { result ≡ (entry_of self.0).accessed }
     {
         self.contains(Pte::ACCESSED)
     }
 
-    #[tactic(auto, using(crate::specs::EntryWordLaws::dirty_flag))]
+    #[tactic(auto, using(crate::proofs::EntryWordLaws::dirty_flag))]
     pub fn is_dirty(self) -> bool
         ensures { result ≡ (entry_of self.0).dirty }
     {
@@ -206,7 +206,7 @@ impl Pte {
     }
 
     /// The entry with A set, and with D too after a store (step 7).
-    #[tactic(auto, using(crate::specs::EntryWordLaws::touched_by_store), unfolding(crate::specs::Entry::touched))]
+    #[tactic(auto, using(crate::proofs::EntryWordLaws::touched_by_store), unfolding(crate::specs::Entry::touched))]
     pub(crate) fn touched(self, access: Access) -> Pte
         ensures { result.0 ≡ word_of (touched access (entry_of self.0)) }
     {
@@ -216,14 +216,14 @@ impl Pte {
         }
     }
 
-    #[tactic(auto, using(crate::specs::EntryWordLaws::word_of_accessed))]
+    #[tactic(auto, using(crate::proofs::EntryWordLaws::word_of_accessed))]
     fn with_accessed(self) -> Pte
         ensures { result.0 ≡ word_of (record (entry_of self.0) { accessed = true }) }
     {
         Pte(self.0 | Pte::ACCESSED.0)
     }
 
-    #[tactic(auto, using(crate::specs::EntryWordLaws::word_of_dirty))]
+    #[tactic(auto, using(crate::proofs::EntryWordLaws::word_of_dirty))]
     fn with_dirty(self) -> Pte
         ensures { result.0 ≡ word_of (record (entry_of self.0) { dirty = true }) }
     {
@@ -231,7 +231,7 @@ impl Pte {
     }
 
     /// The entry with A clear.
-    #[tactic(auto, using(crate::specs::EntryWordLaws::word_of_not_accessed, crate::specs::EntryWordLaws::same_accessed, crate::specs::EntryWordLaws::accessed_room))]
+    #[tactic(auto, using(crate::proofs::EntryWordLaws::word_of_not_accessed, crate::proofs::EntryWordLaws::same_accessed, crate::proofs::EntryWordLaws::accessed_room))]
     pub(crate) fn without_accessed(self) -> Pte
         ensures { result.0 ≡ word_of (record (entry_of self.0) { accessed = false }) }
     {
@@ -243,7 +243,7 @@ impl Pte {
     }
 
     /// The entry with D clear.
-    #[tactic(auto, using(crate::specs::EntryWordLaws::word_of_not_dirty, crate::specs::EntryWordLaws::same_dirty, crate::specs::EntryWordLaws::dirty_room))]
+    #[tactic(auto, using(crate::proofs::EntryWordLaws::word_of_not_dirty, crate::proofs::EntryWordLaws::same_dirty, crate::proofs::EntryWordLaws::dirty_room))]
     pub(crate) fn without_dirty(self) -> Pte
         ensures { result.0 ≡ word_of (record (entry_of self.0) { dirty = false }) }
     {

@@ -2,4 +2,3 @@ pub mod Sketch
 pub mod SketchLaws
 pub mod WTinyLfu
 pub mod WTinyLfuLaws
-pub mod WTinyLfuPlayLaws

@@ -1,3 +1,4 @@
+pub mod CacheLaws
 pub mod Places
 pub mod ReadyLaws
 pub mod CrowdLaws

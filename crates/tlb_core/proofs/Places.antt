@@ -10,7 +10,7 @@ use Rattle.std.proofs.lemmas.List.Kept.{AllPairs-filter}
 use Rattle.std.proofs.lemmas.Bool.Decides.{nat_tests}
 use Rattle.std.proofs.lemmas.Option.{slice_get-get_or}
 use Rattle.tlb_core.specs.declared.translation.Translation.{Translation}
-use Rattle.tlb_core.specs.CacheLaws.{first_is_other}
+use Rattle.tlb_core.proofs.CacheLaws.{first_is_other}
 use Rattle.tlb_core.specs.Cache.{OnePerPage, is_of_page, translation_of, with_room, filled, filled_at, doomed, doomed_entry, undoomed}
 
 -- where no entry is marked, none is dropped

@@ -11,10 +11,10 @@ use Rattle.page_memory.specs.Words.{page_number}
 use Rattle.page_memory.specs.declared.recent_pages.RecentPage.{RecentPage}
 use Rattle.page_memory.specs.declared.recent_pages.RecentPages.{RecentPages}
 use Rattle.page_memory.specs.RecentPages.{nowhere, no_recent, recent_of, learned, forgotten}
-use Rattle.page_memory.specs.RecentPagesLaws.{each_none, each_learned, each_forgotten}
+use Rattle.page_memory.proofs.RecentPagesLaws.{each_none, each_learned, each_forgotten}
 use Rattle.tlb_core.specs.declared.translation.Translation.{Translation}
 use Rattle.tlb_core.specs.Cache.{Hits, is_of_page, translation_of, doomed, doomed_entry}
-use Rattle.tlb_core.specs.CacheLaws.{entry_of-doomed}
+use Rattle.tlb_core.proofs.CacheLaws.{entry_of-doomed}
 use Rattle.tlb_core.specs.Ready.{IsShown, IsReady}
 use Rattle.tlb_core.proofs.Places.{place_within}
 

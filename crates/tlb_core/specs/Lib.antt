@@ -1,4 +1,3 @@
 pub mod Cache
-pub mod CacheLaws
 pub mod Crowds
 pub mod Ready

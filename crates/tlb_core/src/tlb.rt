@@ -76,7 +76,7 @@ impl Tlb {
 
     /// The entry of a page. It is looked for where the hint says, and then everywhere, if any entry may be the page's.
     #[inline]
-    #[tactic(auto, using(crate::specs::CacheLaws::found_at))]
+    #[tactic(auto, using(crate::proofs::CacheLaws::found_at))]
     pub fn look(&self, page: u32) -> Option<Translation>
         ensures { result ≡ translation_of page self.now }
     {
@@ -133,7 +133,7 @@ impl Tlb {
     }
 
     #[cold]
-    #[tactic(auto, using(crate::proofs::Places::find_at_place, crate::specs::CacheLaws::find_nowhere))]
+    #[tactic(auto, using(crate::proofs::Places::find_at_place, crate::proofs::CacheLaws::find_nowhere))]
     fn search(&self, page: u32) -> Option<Translation>
         ensures { result ≡ translation_of page self.now }
     {
@@ -144,7 +144,7 @@ impl Tlb {
     }
 
     /// Puts an entry in: in place of its page's where there is one, else after the others; then the oldest of 16 goes.
-    #[tactic(auto, using(crate::proofs::Places::filled_in_place, crate::proofs::Places::filled_behind, crate::specs::CacheLaws::find_nowhere))]
+    #[tactic(auto, using(crate::proofs::Places::filled_in_place, crate::proofs::Places::filled_behind, crate::proofs::CacheLaws::find_nowhere))]
     pub fn fill(&mut self, entry: Translation)
         ensures { self.new ≡ filled entry self.old }
     {

@@ -13,7 +13,7 @@ ghost use Rattle.trace_lines.specs.PageLines.{AreReferences, IsPage, line_refere
 ghost use Rattle.trace_lines.specs.PageLines.{record_page};
 
 /// The lines that are written of references are read as these references.
-#[tactic(auto, using(crate::specs::ReadBackLaws::lines_read))]
+#[tactic(auto, using(crate::proofs::ReadBackLaws::lines_read))]
 pub fn written_lines_are_read()
     ensures { (references : List Reference) → AreReferences references
         → map line_reference (lines_of (flat_map reference_line references))
@@ -21,7 +21,7 @@ pub fn written_lines_are_read()
 {}
 
 /// The line of names of a table names the column of ids, and a row that is written of a page is read as that page.
-#[tactic(auto, using(crate::specs::CsvBackLaws::header_read, crate::specs::CsvBackLaws::row_read))]
+#[tactic(auto, using(crate::proofs::CsvBackLaws::header_read, crate::proofs::CsvBackLaws::row_read))]
 pub fn written_rows_are_read()
     ensures names { column_of_ids header ≡ Some written_column }
     ensures rows { (time : ℕ) (page : Key) → time < 2 ^ 64 → IsPage page
@@ -29,14 +29,14 @@ pub fn written_rows_are_read()
 {}
 
 /// A record that is written of a page is read as that page.
-#[tactic(auto, using(crate::specs::ReadBackLaws::record_of_page))]
+#[tactic(auto, using(crate::proofs::ReadBackLaws::record_of_page))]
 pub fn written_records_are_read()
     ensures { (time next : ℕ) (page : Key) → IsPage page
         → record_page (record_bytes time page next) ≡ Some page }
 {}
 
 /// Each id has a page of its own.
-#[tactic(auto, using(crate::specs::ReadBackLaws::page_of_one_id))]
+#[tactic(auto, using(crate::proofs::ReadBackLaws::page_of_one_id))]
 pub fn ids_have_pages_of_their_own()
     ensures { (a b : ℕ) → page_of_id a ≡ page_of_id b → a ≡ b }
 {}

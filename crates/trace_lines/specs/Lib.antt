@@ -1,10 +1,7 @@
 pub mod Ids
-pub mod IdLaws
 pub mod PageIds
 pub mod PlainLines
 pub mod Columns
-pub mod ColumnLaws
 pub mod PageLines
 pub mod AddressLines
-pub mod AddressLineLaws
 pub mod Lines

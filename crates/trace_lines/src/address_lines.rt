@@ -209,7 +209,7 @@ fn size_in(word: &[u8]) -> Option<u64>
 }
 
 /// The kind of access stands before the size, and the address behind an `@`.
-#[tactic(auto, using(crate::specs::AddressLineLaws::view_end, crate::specs::AddressLineLaws::view_at, crate::specs::AddressLineLaws::view_on))]
+#[tactic(auto, using(crate::proofs::AddressLineLaws::view_end, crate::proofs::AddressLineLaws::view_at, crate::proofs::AddressLineLaws::view_on))]
 fn view_line(line: &[u8]) -> Option<AddressLine>
     ensures { result ≡ view_words None None (words_of line.now) }
 {

@@ -76,7 +76,7 @@ fn field_size(line: &[u8], separator: u8) -> usize
 }
 
 /// The first field of a line, and what stands behind its separator, if it has one.
-#[tactic(auto, using(crate::specs::ColumnLaws::whole_field))]
+#[tactic(auto, using(crate::proofs::ColumnLaws::whole_field))]
 fn next_field(line: &[u8], separator: u8) -> (&[u8], Option<&[u8]>)
     ensures fields { fields_of separator line.now ≡ result.0.now ∷ fields_behind separator
         (option_copied result.1) }
@@ -90,7 +90,7 @@ fn next_field(line: &[u8], separator: u8) -> (&[u8], Option<&[u8]>)
 }
 
 /// What stands in a column of a line.
-#[tactic(auto, using(crate::specs::ColumnLaws::get_behind, crate::specs::ColumnLaws::get_first, crate::specs::ColumnLaws::get_none))]
+#[tactic(auto, using(crate::proofs::ColumnLaws::get_behind, crate::proofs::ColumnLaws::get_first, crate::proofs::ColumnLaws::get_none))]
 fn field(line: &[u8], separator: u8, place: usize) -> Option<&[u8]>
     ensures { option_copied result ≡ slice_get (fields_of separator line.now) place }
 {

@@ -18,7 +18,7 @@ pub(crate) fn id_in(number: &[u8]) -> Option<u64>
 }
 
 /// The number below 2^64 that digits write.
-#[tactic(auto, using(crate::specs::IdLaws::number_told))]
+#[tactic(auto, using(crate::proofs::IdLaws::number_told))]
 pub(crate) fn id_to(digits: &[u8], radix: u32) -> Option<u64>
     requires least { 2 ≤ radix }
     requires most { radix ≤ 36 }

@@ -82,7 +82,7 @@ fn bar(word: &[u8]) -> Option<usize>
 }
 
 /// The number of 32 bits that a text writes.
-#[tactic(auto, using(crate::specs::IdLaws::short_told))]
+#[tactic(auto, using(crate::proofs::IdLaws::short_told))]
 fn short_number(text: &[u8]) -> Option<u32>
     ensures { result ≡ written_below 4294967296 text.now }
 {

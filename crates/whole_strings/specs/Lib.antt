@@ -1,4 +1,3 @@
-pub mod NextUseLaws
 pub mod NextPlaces
 pub mod NextPlaceLaws
 pub mod PlaceStepLaws
@@ -10,15 +9,8 @@ pub mod LastPlaceLaws
 pub mod OptimumCurve
 pub mod OptimumStack
 pub mod OptimumInclusion
-pub mod CarriedLaws
-pub mod CarryingLaws
-pub mod OptimumStepLaws
-pub mod OptimumStackLaws
-pub mod OptimumInclusionLaws
 pub mod OptimumCurveLaws
-pub mod CutStackLaws
 pub mod OptimumCounts
-pub mod OptimumCountLaws
 pub mod Sampling
 pub mod WorkingSets
 pub mod WorkingSetLaws

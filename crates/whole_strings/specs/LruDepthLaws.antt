@@ -6,7 +6,7 @@ use Rattle.clock_policy.specs.declared.key.Key.{Key}
 use Rattle.page_policies.specs.Strings.{is_page, holds, without, misses}
 use Rattle.page_policies.specs.Queues.{lru, lru_misses}
 use Rattle.page_policies.specs.Ordered.{to_front}
-use Rattle.page_policies.specs.InclusionLaws.{cut_step, nothing}
+use Rattle.page_policies.proofs.InclusionLaws.{cut_step, nothing}
 use Rattle.page_policies.specs.NumberLaws.{less, most}
 use Rattle.whole_strings.specs.LruDepths.{depth, hits_within, CountsLru, IsLruCurve}
 

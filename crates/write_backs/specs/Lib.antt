@@ -1,3 +1,2 @@
 pub mod WriteBacks
 pub mod WrittenBack
-pub mod WriteBackLaws

@@ -63,7 +63,7 @@ fn makes_room(verdict: Result<Verdict, Refusal>) -> bool
 }
 
 /// The question is answered by its page's mark, which the page loses. Answers whether there is a frame now, where there was none before.
-#[tactic(auto, using(crate::specs::RoomLaws::room_made))]
+#[tactic(auto, using(crate::proofs::RoomLaws::room_made))]
 fn ask<C: Clock>(clock: &mut C, used: &mut HashSet<Key>) -> bool
     ensures moved { play_of (C.state clock.new) used.new ≡ asked (question_of (C.state clock.old))
         (play_of (C.state clock.old) used.old) }

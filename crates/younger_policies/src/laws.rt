@@ -14,7 +14,7 @@ ghost use Rattle.younger_policies.specs.Sieve.{sieve_misses};
 ghost use Rattle.younger_policies.specs.S3Fifo.{s3_fifo_misses};
 
 /// 2Q, LIRS, ARC, SIEVE and S3-FIFO are ways to serve a string, however they divide their frames, so that the optimum is their floor.
-#[tactic(auto, using(crate::specs::TwoQueuePlayLaws::two_queues_played, crate::specs::LirsPlayLaws::lirs_played, crate::specs::ArcPlayLaws::arc_played, crate::specs::SievePlayLaws::sieve_played, crate::specs::S3FifoPlayLaws::s3_fifo_played))]
+#[tactic(auto, using(crate::proofs::TwoQueuePlayLaws::two_queues_played, crate::proofs::LirsPlayLaws::lirs_played, crate::proofs::ArcPlayLaws::arc_played, crate::proofs::SievePlayLaws::sieve_played, crate::proofs::S3FifoPlayLaws::s3_fifo_played))]
 pub fn younger_policies_are_plays()
     ensures two_queues { (shares : TwoQueueShares) → shares.kin < 100 → IsPlayed
         (two_queues_misses shares) }
@@ -27,7 +27,7 @@ pub fn younger_policies_are_plays()
 
 /// CLOCK-Pro is a way to serve a string too, with 4 to 4096 frames, so that the optimum is its floor. In particular five answers a
 /// frame always make room.
-#[tactic(auto, using(crate::specs::ClockPlayLaws::clock_pro_played, crate::specs::ClockPlayLaws::clock_pro_used_played))]
+#[tactic(auto, using(crate::proofs::ClockPlayLaws::clock_pro_played, crate::proofs::ClockPlayLaws::clock_pro_used_played))]
 pub fn clock_pro_is_a_play()
     ensures published { IsPlayedWithin least_frames most_frames clock_pro_misses }
     ensures used { IsPlayedWithin least_frames most_frames clock_pro_used_misses }

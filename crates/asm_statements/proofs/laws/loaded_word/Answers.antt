@@ -1,4 +1,4 @@
-use Rattle.rv_isa.specs.SplitLaws.{low_part_fits}
+use Rattle.rv_isa.proofs.SplitLaws.{low_part_fits}
 use Rattle.asm_statements.proofs.laws.loaded_word.Goals as goal
 
 pub returns-clause-fits : goal.returns-clause-fits

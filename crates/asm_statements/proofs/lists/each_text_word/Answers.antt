@@ -3,7 +3,7 @@ use Rattle.std.proofs.lemmas.Grind.{common_steps}
 use Rattle.asm_lines.specs.declared.fault.FaultKind.{FaultKind}
 use Rattle.asm_values.specs.Directives.{each_of}
 use Rattle.asm_statements.specs.Lists.{text_word}
-use Rattle.asm_values.specs.EachLaws.{each_of_starts, each_of_goes_on, each_of_stops, each_of_ends}
+use Rattle.asm_values.proofs.EachLaws.{each_of_starts, each_of_goes_on, each_of_stops, each_of_ends}
 use Rattle.asm_statements.proofs.lists.each_text_word.Goals as goal
 
 pub loop-operand-init : goal.loop-operand-init

@@ -2,7 +2,7 @@ use Rattle.std.proofs.Common.{arith, ◌≡◌, ◌<◌, ◌≤◌, ◌∷◌, [
 use Rattle.std.proofs.lemmas.Grind.{common_steps}
 use Rattle.asm_lines.specs.declared.fault.FaultKind.{FaultKind}
 use Rattle.asm_values.specs.Directives.{each_of, data_value}
-use Rattle.asm_values.specs.EachLaws.{each_of_starts, each_of_goes_on, each_of_stops, each_of_ends}
+use Rattle.asm_values.proofs.EachLaws.{each_of_starts, each_of_goes_on, each_of_stops, each_of_ends}
 use Rattle.asm_values.proofs.data.each_data_value.Goals as goal
 
 pub loop-operand-init : goal.loop-operand-init

@@ -1,5 +1,5 @@
 use Rattle.std.proofs.Common.{refl, ap, ◌∙◌, slice_set, length-set, arith}
-use Rattle.debug_core.specs.ReadingLaws.{bytes_none, bytes_more, bytes_all}
+use Rattle.debug_core.proofs.ReadingLaws.{bytes_none, bytes_more, bytes_all}
 use Rattle.debug_core.proofs.flat_target.read_all.Goals as goal
 
 pub bytes-init : goal.bytes-init

@@ -1,5 +1,5 @@
 use Rattle.std.proofs.Common.{◌≡◌, ◌+◌, sym, ◌∙◌, arith}
-use Rattle.debug_core.specs.ReadingLaws.{all_next, one_missing, all_past}
+use Rattle.debug_core.proofs.ReadingLaws.{all_next, one_missing, all_past}
 use Rattle.debug_core.proofs.memory_view.are_mapped.Goals as goal
 
 pub returns-then-not-is_mapped : goal.returns-then-not-is_mapped

@@ -1,6 +1,6 @@
 use Rattle.std.proofs.Common.{◌+◌, ◌≤◌, Some, length, map, ◌∙◌, sym, subst, ap, arith}
 use Rattle.std.proofs.lemmas.List.{length_push}
-use Rattle.debug_core.specs.ReadingLaws.{copied_more, there_more}
+use Rattle.debug_core.proofs.ReadingLaws.{copied_more, there_more}
 use Rattle.debug_core.proofs.memory_view.copied.Goals as goal
 
 pub bytes-preserved : goal.bytes-preserved

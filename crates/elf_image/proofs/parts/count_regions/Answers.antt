@@ -1,5 +1,5 @@
 use Rattle.std.proofs.Common.{refl, sym, arith, ◌∙◌}
-use Rattle.elf_image.specs.RisingLaws.{distinct_none, count_new, count_old, last_region_more}
+use Rattle.elf_image.proofs.RisingLaws.{distinct_none, count_new, count_old, last_region_more}
 use Rattle.elf_image.proofs.parts.count_regions.Goals as goal
 use Rattle.elf_image.proofs.parts.count_regions.Goals.{then-ne, else-ne}
 

@@ -1,6 +1,6 @@
 use Rattle.std.proofs.Common.{◌≡◌, ◌≤◌, length, take}
 use Rattle.elf_image.specs.Regions.{regions}
-use Rattle.elf_image.specs.RisingLaws.{last_region}
+use Rattle.elf_image.proofs.RisingLaws.{last_region}
 use Rattle.elf_image.proofs.parts.count_regions.Given as goal
 
 abbrev pub invariant-loop-listed : goal.invariant-loop-listed

@@ -1,5 +1,5 @@
 use Rattle.std.proofs.Common.{◌-◌, arith, sym}
-use Rattle.elf_image.specs.RisingLaws.{rises, falls_at}
+use Rattle.elf_image.proofs.RisingLaws.{rises, falls_at}
 use Rattle.elf_image.proofs.parts.do_rise.Goals as goal
 
 pub returns-then-pages-place : goal.returns-then-pages-place

@@ -1,7 +1,7 @@
 -- The page of a read is that of the copy, where memory allows it.
 use Rattle.std.proofs.Common.{[]}
-use Rattle.env_calls.specs.CallLaws.{read_uses_none, read_lacks}
-use Rattle.env_calls.specs.LeavingLaws.{read_takes_none, read_missed}
+use Rattle.env_calls.proofs.CallLaws.{read_uses_none, read_lacks}
+use Rattle.env_calls.proofs.LeavingLaws.{read_takes_none, read_missed}
 use Rattle.env_calls.proofs.transfers.read_in_page.Goals as goal
 
 pub returns-in-Err-Fault-clause-pages : goal.returns-in-Err-Fault-clause-pages

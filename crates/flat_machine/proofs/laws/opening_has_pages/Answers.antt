@@ -1,4 +1,4 @@
-use Rattle.flat_machine.specs.OpeningLaws.{image_page_at, stack_page_at, no_page_at}
+use Rattle.flat_machine.proofs.OpeningLaws.{image_page_at, stack_page_at, no_page_at}
 use Rattle.flat_machine.proofs.laws.opening_has_pages.Goals as goal
 
 pub returns-clause-image : goal.returns-clause-image

@@ -3,7 +3,7 @@ use Rattle.std.specs.FinMap.{get, insert, from_entries}
 use Rattle.elf_image.specs.declared.image.ImagePage.{ImagePage}
 use Rattle.page_memory.specs.Memory.{Memory, unreserved}
 use Rattle.flat_machine.specs.Process.{image_entry}
-use Rattle.flat_machine.specs.PagesLaws.{KeysBelow, images_below, unmapped, one_more_page, one_more_image}
+use Rattle.flat_machine.proofs.PagesLaws.{KeysBelow, images_below, unmapped, one_more_page, one_more_image}
 use Rattle.flat_machine.proofs.opening.image_memory.Goals as goal
 
 pub map_page-requires-clause-absent : goal.map_page-requires-clause-absent

@@ -3,7 +3,7 @@ use Rattle.std.specs.FinMap.{get, insert, from_entries}
 use Rattle.std.specs.List.{range_with_len}
 use Rattle.page_memory.specs.Memory.{Memory, unreserved}
 use Rattle.flat_machine.specs.Process.{image_entry, stack_entry}
-use Rattle.flat_machine.specs.PagesLaws.{stack_below, unmapped, one_more_page, one_more_stack}
+use Rattle.flat_machine.proofs.PagesLaws.{stack_below, unmapped, one_more_page, one_more_stack}
 use Rattle.flat_machine.proofs.opening.opening_memory.Goals as goal
 
 pub map_page-requires-clause-absent : goal.map_page-requires-clause-absent

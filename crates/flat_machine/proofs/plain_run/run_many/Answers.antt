@@ -2,7 +2,7 @@
 use Rattle.std.proofs.Common.{◌≡◌, ◌+◌, ◌-◌, ap, ◌∙◌, arith}
 use Rattle.decoded_pages.proofs.Runs.{all_shown_on}
 use Rattle.flat_machine.specs.PlainRun.{plain_run}
-use Rattle.flat_machine.specs.PlainRunLaws.{plain_none}
+use Rattle.flat_machine.proofs.PlainRunLaws.{plain_none}
 use Rattle.flat_machine.proofs.PlainCode.{plain_keeps, plain_on, parts_counted, part_within}
 use Rattle.flat_machine.proofs.plain_run.run_many.Goals as goal
 

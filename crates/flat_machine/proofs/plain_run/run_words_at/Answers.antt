@@ -1,7 +1,7 @@
 use Rattle.std.proofs.Common.{◌≡◌, ◌+◌, ◌-◌, ap, ◌∙◌, sym, arith}
 use Rattle.rv_exec.specs.Registers.{with_pc}
 use Rattle.flat_machine.specs.PlainRun.{plain_run}
-use Rattle.flat_machine.specs.PlainRunLaws.{plain_none, plain_more}
+use Rattle.flat_machine.proofs.PlainRunLaws.{plain_none, plain_more}
 use Rattle.flat_machine.proofs.plain_run.run_words_at.Goals as goal
 
 pub loop-left-init : goal.loop-left-init

@@ -1,5 +1,5 @@
 use Rattle.std.proofs.Common.{sym}
-use Rattle.flat_machine.specs.TurnsLaws.{rest_by_same, rest_by_other, rest_by_none}
+use Rattle.flat_machine.proofs.TurnsLaws.{rest_by_same, rest_by_other, rest_by_none}
 use Rattle.flat_machine.proofs.schedule.rest_in_last.Goals as goal
 
 pub returns-then-last-hart : goal.returns-then-last-hart

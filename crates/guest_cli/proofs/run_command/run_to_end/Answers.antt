@@ -2,7 +2,7 @@ use Rattle.std.proofs.Common.{◌≡◌, ◌++◌, Some, length, sym, ap, ◌∙
 use Rattle.std.specs.Io.KnownBytes.{Appends}
 use Rattle.flat_machine.specs.Process.{Process}
 use Rattle.flat_machine.specs.ByTurns.{first_turn}
-use Rattle.flat_machine.specs.RunLaws.{by_turns_none}
+use Rattle.flat_machine.proofs.RunLaws.{by_turns_none}
 use Rattle.guest_cli.specs.TurnRuns.{Itself, Limited, Wanting}
 use Rattle.guest_cli.proofs.OutputPieces.{piece_grows, piece_written, goes_on}
 use Rattle.guest_cli.proofs.Pieces.{more_turns}

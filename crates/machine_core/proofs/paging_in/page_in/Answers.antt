@@ -1,7 +1,7 @@
 -- A frame is missing where a page was admitted, so there is room for it.
 use Rattle.std.proofs.Common.{rules, ◌≡◌, Result, Ok, Err, IsErr, true, sym, ◌∙◌}
 use Rattle.std.specs.Result.{is_err}
-use Rattle.machine_sides.specs.AdmitLaws.{not_full}
+use Rattle.machine_sides.proofs.AdmitLaws.{not_full}
 use Rattle.machine_core.proofs.paging_in.page_in.Goals as goal
 
 is_refused : {A E : Type 0} (r : Result A E) → is_err r ≡ true → IsErr r

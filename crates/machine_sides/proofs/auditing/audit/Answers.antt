@@ -1,8 +1,8 @@
 -- One process more was counted, or makes the machine unsound.
 use Rattle.std.proofs.Common.{◌≡◌, ◌<◌, false, true, length, refl, arith, subst, take}
 use Rattle.std.proofs.lemmas.List.{take_all}
-use Rattle.machine_sides.specs.AuditLaws.{CountedSo, all_sound, counted_none, space_next, space_unsound, sound_all}
-use Rattle.machine_sides.specs.EverywhereLaws.{everywhere}
+use Rattle.machine_sides.proofs.AuditLaws.{CountedSo, all_sound, counted_none, space_next, space_unsound, sound_all}
+use Rattle.machine_sides.proofs.EverywhereLaws.{everywhere}
 use Rattle.machine_sides.proofs.auditing.audit.Goals as goal
 
 pub spaces-init : goal.spaces-init

@@ -1,6 +1,6 @@
 -- The processes so far were counted.
 use Rattle.std.proofs.Common.{take}
-use Rattle.machine_sides.specs.AuditLaws.{CountedSo}
+use Rattle.machine_sides.proofs.AuditLaws.{CountedSo}
 use Rattle.machine_sides.proofs.auditing.audit.Given as goal
 
 abbrev pub invariant-spaces : goal.invariant-spaces

@@ -2,7 +2,7 @@
 use Rattle.std.proofs.Common.{◌&&◌, length, ◌≤◌, sym, ◌∙◌, arith}
 use Rattle.clock_policy.specs.Residents.{residents, is_resident_that, in_frame}
 use Rattle.machine_sides.specs.Held.{is_resident_of}
-use Rattle.machine_sides.specs.CountedLaws.{entry_more, count_end, count_whole, one_by}
+use Rattle.machine_sides.proofs.CountedLaws.{entry_more, count_end, count_whole, one_by}
 use Rattle.machine_sides.proofs.counting.entries_of_resident_pages.Goals as goal
 
 pub returns-in_default : goal.returns-in_default

@@ -1,7 +1,7 @@
 -- One more entry of the list, up to its end.
 use Rattle.std.proofs.Common.{◌&&◌, true, length, ◌≤◌, sym, ◌∙◌, arith}
 use Rattle.clock_policy.specs.Residents.{residents, is_resident_that, in_frame}
-use Rattle.machine_sides.specs.CountedLaws.{entry_more, count_end, count_whole, one_by, and_true}
+use Rattle.machine_sides.proofs.CountedLaws.{entry_more, count_end, count_whole, one_by, and_true}
 use Rattle.machine_sides.proofs.counting.resident_entries.Goals as goal
 
 pub returns-in_default : goal.returns-in_default

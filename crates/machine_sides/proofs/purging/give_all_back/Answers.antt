@@ -1,7 +1,7 @@
 -- One page after another gives back what it has.
 use Rattle.std.proofs.Common.{is_some, refl, sym, ◌∙◌, arith}
-use Rattle.paged_memory.specs.GivenLaws.{has_given}
-use Rattle.paged_memory.specs.NoticesLaws.{empties_harts}
+use Rattle.paged_memory.proofs.GivenLaws.{has_given}
+use Rattle.paged_memory.proofs.NoticesLaws.{empties_harts}
 use Rattle.machine_sides.proofs.PurgeSteps.{none_gave, stopped, all_gave, caches_now, ended_still, first_some, then_some, went_on}
 use Rattle.machine_sides.proofs.purging.give_all_back.Goals as goal
 use Rattle.machine_sides.proofs.purging.give_all_back.Goals.{then-is_some-via-then-is_some, then-is_some-via-else-is_some+then-is_some-2}

@@ -1,5 +1,5 @@
 use Rattle.std.proofs.Common.{◌≡◌, None}
-use Rattle.paged_memory.specs.GivenLaws.{giving_within}
+use Rattle.paged_memory.proofs.GivenLaws.{giving_within}
 use Rattle.paged_memory.specs.Moving.{HasNothingBelow}
 use Rattle.paged_memory.specs.Whole.{harts_in}
 use Rattle.machine_sides.specs.Purging.{GivesSome}

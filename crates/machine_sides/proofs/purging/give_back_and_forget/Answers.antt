@@ -1,6 +1,6 @@
 -- The pages give back what they have, and then the list forgets them.
 use Rattle.std.proofs.Common.{sym, ◌∙◌}
-use Rattle.machine_sides.specs.PurgeLaws.{unbarred, some_ended, gave_told}
+use Rattle.machine_sides.proofs.PurgeLaws.{unbarred, some_ended, gave_told}
 use Rattle.machine_sides.proofs.purging.give_back_and_forget.Goals as goal
 
 pub give_all_back-left-requires : goal.give_all_back-left-requires

@@ -2,7 +2,7 @@
 use Rattle.std.proofs.Common.{◌≡◌, Result, Ok, Err, sym, ◌∙◌, IfErr, true}
 use Rattle.std.specs.Result.{is_err}
 use Rattle.page_store.specs.declared.refusal.LeaveRefusal.{LeaveRefusal}
-use Rattle.paged_memory.specs.LeaveLaws.{resident_leaves}
+use Rattle.paged_memory.proofs.LeaveLaws.{resident_leaves}
 use Rattle.paged_memory.specs.Moving.{DoesNotLeave}
 use Rattle.paged_memory.specs.Stages.{is_resident_stage}
 use Rattle.paged_memory.specs.Whole.{stage_in}

@@ -1,7 +1,7 @@
 use Rattle.std.proofs.Common.{subst}
 use Rattle.page_policies.specs.declared.frames.Frames.{Frames}
 use Rattle.miss_counts.specs.Counted.{IsRow}
-use Rattle.miss_counts.specs.ZippedLaws.{zip_more}
+use Rattle.miss_counts.proofs.ZippedLaws.{zip_more}
 use Rattle.miss_counts.proofs.counts.count_rows.Goals as goal
 
 pub frames-preserved : goal.frames-preserved

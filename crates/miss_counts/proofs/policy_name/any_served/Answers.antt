@@ -1,7 +1,7 @@
 use Rattle.std.proofs.Common.{◌∙◌, sym, ap}
 use Rattle.page_policies.specs.declared.frames.Frames.{Frames}
 use Rattle.miss_counts.specs.Counted.{any_serves}
-use Rattle.miss_counts.specs.ServingLaws.{served_on}
+use Rattle.miss_counts.proofs.ServingLaws.{served_on}
 use Rattle.miss_counts.proofs.policy_name.any_served.Goals as goal
 
 pub frames-preserved : goal.frames-preserved

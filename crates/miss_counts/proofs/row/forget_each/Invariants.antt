@@ -1,6 +1,6 @@
 use Rattle.std.proofs.Common.{◌≡◌}
 use Rattle.miss_counts.specs.Playing.{StartsAnew, Where}
-use Rattle.miss_counts.specs.ZippedLaws.{Below}
+use Rattle.miss_counts.proofs.ZippedLaws.{Below}
 use Rattle.miss_counts.proofs.row.forget_each.Given as goal
 
 -- the policies so far count anew

@@ -1,5 +1,5 @@
 use Rattle.std.proofs.Common.{refl}
-use Rattle.miss_counts.specs.ZippedLaws.{below_none, below_more, below_lent}
+use Rattle.miss_counts.proofs.ZippedLaws.{below_none, below_more, below_lent}
 use Rattle.miss_counts.proofs.row.play_each.Goals as goal
 
 pub players-init : goal.players-init

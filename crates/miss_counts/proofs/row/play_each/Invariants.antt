@@ -1,6 +1,6 @@
 use Rattle.std.proofs.Common.{◌≡◌}
 use Rattle.miss_counts.specs.Playing.{GoesOn, Where}
-use Rattle.miss_counts.specs.ZippedLaws.{Below}
+use Rattle.miss_counts.proofs.ZippedLaws.{Below}
 use Rattle.miss_counts.proofs.row.play_each.Given as goal
 
 -- the policies so far have played

@@ -1,4 +1,4 @@
-use Rattle.miss_counts.specs.ZippedLaws.{zip_more}
+use Rattle.miss_counts.proofs.ZippedLaws.{zip_more}
 use Rattle.miss_counts.proofs.row.players_of.Goals as goal
 
 pub policies-preserved : goal.policies-preserved

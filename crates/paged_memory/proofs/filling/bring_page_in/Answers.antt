@@ -3,7 +3,7 @@ use Rattle.std.specs.Prelude.{if◌then◌else◌}
 use Rattle.page_memory.specs.Pages.{Page}
 use Rattle.sv32_table.specs.Entry.{page_entry}
 use Rattle.sv32_table.specs.EntryAt.{entry_at}
-use Rattle.sv32_table.specs.EntryLaws.{leaf_entry-page_entry}
+use Rattle.sv32_table.proofs.EntryLaws.{leaf_entry-page_entry}
 use Rattle.paged_memory.proofs.filling.bring_page_in.Goals as goal
 
 pub returns-in-Ok-clause-entries : goal.returns-in-Ok-clause-entries

@@ -1,5 +1,5 @@
 use Rattle.std.proofs.Common.{Err, ℕ, ◌≡◌, ◌≢◌, ◌%◌, ◌<◌, ◌^◌, arith, ap, sym, ◌∙◌, subst}
-use Rattle.page_memory.specs.AccessLaws.{stored_misaligned}
+use Rattle.page_memory.proofs.AccessLaws.{stored_misaligned}
 use Rattle.page_memory.specs.Pages.{stored}
 use Rattle.page_memory.specs.Words.{page_number, bytes_in}
 use Rattle.page_memory.specs.declared.fault.MemoryFault.TheVariants.{PageFault}

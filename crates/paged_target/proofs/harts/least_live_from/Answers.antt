@@ -1,6 +1,6 @@
 use Rattle.std.proofs.Common.{◌∙◌, ◌≤◌, arith, sym, length}
 use Rattle.paged_target.specs.Marks.{marks_at}
-use Rattle.env_calls.specs.LiveLaws.{least_none}
+use Rattle.env_calls.proofs.LiveLaws.{least_none}
 use Rattle.paged_target.proofs.Turning.{least_above, least_here, mark_is}
 use Rattle.paged_target.proofs.harts.least_live_from.Goals as goal
 

@@ -1,7 +1,7 @@
 use Rattle.std.proofs.Common.{◌≡◌, ◌+◌, ◌-◌, ◌≤◌, length, refl, ap, ◌∙◌, arith}
 use Rattle.flat_machine.specs.Process.{Process}
 use Rattle.debug_core.specs.Points.{bytes_from}
-use Rattle.debug_core.specs.ReadingLaws.{bytes_none}
+use Rattle.debug_core.proofs.ReadingLaws.{bytes_none}
 use Rattle.paged_target.specs.Shown.{flat_at}
 use Rattle.paged_target.proofs.PageBytes.{page_more, page_size, part_size}
 use Rattle.paged_target.proofs.Recorded.{keeps_room}

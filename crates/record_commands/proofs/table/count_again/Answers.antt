@@ -1,7 +1,7 @@
 use Rattle.std.proofs.Common.{◌≡◌, sym, ap, ◌∙◌, subst, arith}
 use Rattle.std.proofs.lemmas.List.{get_or_default}
 use Rattle.record_commands.specs.declared.row.Row.{Row}
-use Rattle.record_commands.specs.RowLaws.{few_times}
+use Rattle.record_commands.proofs.RowLaws.{few_times}
 use Rattle.record_commands.specs.Rows.{Counts, more}
 use Rattle.std.proofs.Common.{slice_set}
 use Rattle.record_commands.proofs.Places.{counted_again}

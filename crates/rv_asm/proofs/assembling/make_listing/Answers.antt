@@ -1,6 +1,6 @@
 use Rattle.std.proofs.Common.{◌≡◌, ◌∙◌, ap, sym, subst, arith, length, ◌++◌}
 use Rattle.std.proofs.lemmas.Result.{IfOk-at_ok}
-use Rattle.elf_image.specs.ImageLaws.{length-bytes_of}
+use Rattle.elf_image.proofs.ImageLaws.{length-bytes_of}
 use Rattle.page_memory.specs.Words.{page_number}
 use Rattle.elf_image.specs.Image.{ImageContent, bytes_of}
 use Rattle.elf_image.specs.Parts.{parts_fault, image_of_parts}

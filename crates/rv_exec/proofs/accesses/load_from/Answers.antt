@@ -2,7 +2,7 @@
 use Rattle.std.proofs.Common.{◌≡◌, Ok, Err}
 use Rattle.page_memory.specs.Memory.{loaded}
 use Rattle.rv_exec.specs.Access.{load_width}
-use Rattle.rv_exec.specs.AccessLaws.{load_used, load_uses_none}
+use Rattle.rv_exec.proofs.AccessLaws.{load_used, load_uses_none}
 use Rattle.rv_exec.proofs.accesses.load_from.Goals as goal
 
 pub returns-in-Ok-clause-pages : goal.returns-in-Ok-clause-pages

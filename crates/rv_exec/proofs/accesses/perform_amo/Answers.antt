@@ -2,8 +2,8 @@
 use Rattle.std.proofs.Common.{◌≡◌, Err, IsOk, inr}
 use Rattle.page_memory.specs.Memory.{replaced}
 use Rattle.rv_exec.specs.Amo.{amo_result}
-use Rattle.rv_exec.specs.AccessLaws.{amo_used, amo_uses_none, amo_lacks}
-use Rattle.rv_exec.specs.LeavesLaws.{amo_takes, amo_takes_none}
+use Rattle.rv_exec.proofs.AccessLaws.{amo_used, amo_uses_none, amo_lacks}
+use Rattle.rv_exec.proofs.LeavesLaws.{amo_takes, amo_takes_none}
 use Rattle.rv_exec.proofs.accesses.perform_amo.Goals as goal
 
 pub returns-in-Ok-clause-pages : goal.returns-in-Ok-clause-pages

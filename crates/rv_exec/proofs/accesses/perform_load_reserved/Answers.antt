@@ -2,7 +2,7 @@
 use Rattle.std.proofs.Common.{◌≡◌, Err, IsOk}
 use Rattle.page_memory.specs.Words.{page_number}
 use Rattle.page_memory.specs.Memory.{loaded_reserved}
-use Rattle.rv_exec.specs.AccessLaws.{reserving_used, reserving_uses_none, reserving_lacks}
+use Rattle.rv_exec.proofs.AccessLaws.{reserving_used, reserving_uses_none, reserving_lacks}
 use Rattle.rv_exec.proofs.accesses.perform_load_reserved.Goals as goal
 
 pub returns-in-Ok-clause-pages : goal.returns-in-Ok-clause-pages

@@ -2,8 +2,8 @@
 use Rattle.std.proofs.Common.{◌≡◌, Err, IsOk, inr}
 use Rattle.page_memory.specs.Words.{page_number}
 use Rattle.page_memory.specs.Memory.{stored_conditionally}
-use Rattle.rv_exec.specs.AccessLaws.{conditional_used, conditional_uses_none, conditional_lacks}
-use Rattle.rv_exec.specs.LeavesLaws.{conditional_takes, conditional_takes_none}
+use Rattle.rv_exec.proofs.AccessLaws.{conditional_used, conditional_uses_none, conditional_lacks}
+use Rattle.rv_exec.proofs.LeavesLaws.{conditional_takes, conditional_takes_none}
 use Rattle.rv_exec.proofs.accesses.perform_store_conditional.Goals as goal
 
 pub returns-in-Ok-clause-pages : goal.returns-in-Ok-clause-pages

@@ -2,8 +2,8 @@
 use Rattle.std.proofs.Common.{◌≡◌, Ok, Err, IsOk, inr}
 use Rattle.page_memory.specs.Memory.{stored}
 use Rattle.rv_exec.specs.Access.{store_width}
-use Rattle.rv_exec.specs.AccessLaws.{store_used, store_uses_none, store_lacks}
-use Rattle.rv_exec.specs.LeavesLaws.{store_takes, store_takes_none}
+use Rattle.rv_exec.proofs.AccessLaws.{store_used, store_uses_none, store_lacks}
+use Rattle.rv_exec.proofs.LeavesLaws.{store_takes, store_takes_none}
 use Rattle.rv_exec.proofs.accesses.store_to.Goals as goal
 
 pub returns-in-Ok-clause-pages : goal.returns-in-Ok-clause-pages

@@ -4,11 +4,11 @@ use Rattle.page_memory.specs.Words.{page_number}
 use Rattle.page_memory.specs.Memory.{fetched}
 use Rattle.rv_isa.specs.Table.{insn_of}
 use Rattle.rv_exec.specs.Line.{line, decoded_line}
-use Rattle.rv_exec.specs.LineLaws.{line_fetched, line_fault, uses_fetched, used_fault, contains_fetch}
-use Rattle.rv_exec.specs.LeavesLaws.{leaves_fetched, leaves_unfetched}
+use Rattle.rv_exec.proofs.LineLaws.{line_fetched, line_fault, uses_fetched, used_fault, contains_fetch}
+use Rattle.rv_exec.proofs.LeavesLaws.{leaves_fetched, leaves_unfetched}
 use Rattle.rv_exec.specs.Outcomes.{Follows}
 use Rattle.rv_exec.specs.Bounds.{Bounds}
-use Rattle.rv_exec.specs.BoundsLaws.{bounds_fetched, bounds_refused}
+use Rattle.rv_exec.proofs.BoundsLaws.{bounds_fetched, bounds_refused}
 use Rattle.rv_exec.specs.Registers.{with_pc}
 use Rattle.rv_exec.specs.Uses.{page_of_access}
 use Rattle.rv_exec.proofs.execution.execute_at.Goals as goal

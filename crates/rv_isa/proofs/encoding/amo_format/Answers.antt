@@ -1,5 +1,5 @@
 use Rattle.std.proofs.Common.{arith}
-use Rattle.rv_isa.specs.FormatLaws.{amo_placed}
+use Rattle.rv_isa.proofs.FormatLaws.{amo_placed}
 use Rattle.rv_isa.proofs.encoding.amo_format.Goals as goal
 
 pub returns : goal.returns

@@ -1,4 +1,4 @@
-use Rattle.rv_isa.specs.FormatLaws.{agrees_once}
+use Rattle.rv_isa.proofs.FormatLaws.{agrees_once}
 use Rattle.rv_isa.proofs.encoding.encode.Goals as goal
 
 pub returns-clause-only : goal.returns-clause-only

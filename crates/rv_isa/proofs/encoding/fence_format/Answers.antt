@@ -1,5 +1,5 @@
 use Rattle.std.proofs.Common.{arith}
-use Rattle.rv_isa.specs.FormatLaws.{fence_placed}
+use Rattle.rv_isa.proofs.FormatLaws.{fence_placed}
 use Rattle.rv_isa.proofs.encoding.fence_format.Goals as goal
 
 pub returns : goal.returns

@@ -1,5 +1,5 @@
 use Rattle.std.proofs.Common.{arith}
-use Rattle.rv_isa.specs.FormatLaws.{i_placed}
+use Rattle.rv_isa.proofs.FormatLaws.{i_placed}
 use Rattle.rv_isa.proofs.encoding.i_format.Goals as goal
 
 pub returns : goal.returns

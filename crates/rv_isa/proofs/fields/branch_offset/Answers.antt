@@ -1,5 +1,5 @@
 use Rattle.std.proofs.Common.{◌∙◌, sym, subst}
-use Rattle.rv_isa.specs.BitsLaws.{branch_value, branch_sign_fits}
+use Rattle.rv_isa.proofs.BitsLaws.{branch_value, branch_sign_fits}
 use Rattle.rv_isa.specs.Operands.{IsBranchOffset}
 use Rattle.rv_isa.specs.Bits.{bits}
 use Rattle.rv_isa.proofs.fields.branch_offset.Goals as goal

@@ -1,6 +1,6 @@
 use Rattle.std.proofs.Common.{◌∙◌}
 use Rattle.rv_isa.specs.Bits.{bits}
-use Rattle.rv_isa.specs.BitsLaws.{shifted, shifted_20}
+use Rattle.rv_isa.proofs.BitsLaws.{shifted, shifted_20}
 use Rattle.rv_isa.proofs.fields.immediate.Goals as goal
 
 pub returns : goal.returns

@@ -1,5 +1,5 @@
 use Rattle.std.proofs.Common.{◌∙◌, sym, subst}
-use Rattle.rv_isa.specs.BitsLaws.{jump_value, jump_sign_fits}
+use Rattle.rv_isa.proofs.BitsLaws.{jump_value, jump_sign_fits}
 use Rattle.rv_isa.specs.Operands.{IsJumpOffset}
 use Rattle.rv_isa.specs.Bits.{bits}
 use Rattle.rv_isa.proofs.fields.jump_offset.Goals as goal

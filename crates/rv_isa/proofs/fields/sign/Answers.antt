@@ -1,6 +1,6 @@
 use Rattle.std.proofs.Common.{◌∙◌}
 use Rattle.rv_isa.specs.Bits.{bits}
-use Rattle.rv_isa.specs.BitsLaws.{shifted, shifted_31, bits_below}
+use Rattle.rv_isa.proofs.BitsLaws.{shifted, shifted_31, bits_below}
 use Rattle.rv_isa.proofs.fields.sign.Goals as goal
 
 pub returns-clause-value : goal.returns-clause-value

@@ -1,6 +1,6 @@
 use Rattle.std.proofs.Common.{◌+◌, ◌*◌, ◌<◌, ◌∙◌, sym, ap, subst, arith, refl, lit<, to_z, w32}
 use Rattle.rv_isa.specs.Bits.{bits, signed}
-use Rattle.rv_isa.specs.BitsLaws.{bits_below, store_sum, immediate_range}
+use Rattle.rv_isa.proofs.BitsLaws.{bits_below, store_sum, immediate_range}
 use Rattle.rv_isa.specs.Operands.{IsImmediate}
 use Rattle.rv_isa.proofs.fields.store_immediate.Goals as goal
 

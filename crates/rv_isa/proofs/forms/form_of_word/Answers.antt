@@ -4,10 +4,10 @@ use Rattle.std.proofs.lemmas.List.{get_or_append_left}
 use Rattle.std.proofs.lemmas.List.Folds.{flat_map-map}
 use Rattle.std.specs.List.{range_with_len, flat_map}
 use Rattle.rv_isa.specs.Bits.{bits}
-use Rattle.rv_isa.specs.BitsLaws.{bits_below}
+use Rattle.rv_isa.proofs.BitsLaws.{bits_below}
 use Rattle.rv_isa.specs.Table.{branch_kind, load_kind, store_kind, immediate_kind}
 use Rattle.rv_isa.specs.Forms.{form_of, operation_form, insn_of_form}
-use Rattle.rv_isa.specs.FormLaws.{form_meaning}
+use Rattle.rv_isa.proofs.FormLaws.{form_meaning}
 use Rattle.rv_isa.specs.declared.forms.Form.{Form}
 use Rattle.rv_isa.specs.declared.forms.Form.TheVariants.{Illegal}
 use Rattle.rv_isa.specs.declared.forms.TheConstants.{FORMS}

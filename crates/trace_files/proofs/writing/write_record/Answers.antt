@@ -1,4 +1,4 @@
-use Rattle.trace_files.specs.WrittenLaws.{record_written}
+use Rattle.trace_files.proofs.WrittenLaws.{record_written}
 use Rattle.trace_files.proofs.writing.write_record.Goals as goal
 
 pub returns : goal.returns

@@ -1,4 +1,4 @@
-use Rattle.trace_files.specs.WrittenLaws.{Writes}
+use Rattle.trace_files.proofs.WrittenLaws.{Writes}
 use Rattle.trace_files.proofs.writing.write_records.Given as goal
 
 abbrev pub invariant-places : goal.invariant-places

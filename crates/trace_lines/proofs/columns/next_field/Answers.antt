@@ -1,5 +1,5 @@
 use Rattle.std.proofs.Common.{◌<◌, arith, length}
-use Rattle.trace_lines.specs.ColumnLaws.{cut_field}
+use Rattle.trace_lines.proofs.ColumnLaws.{cut_field}
 use Rattle.trace_lines.proofs.columns.next_field.Goals as goal
 
 pub returns-clause-fields : goal.returns-clause-fields

@@ -1,4 +1,4 @@
-use Rattle.whole_strings.specs.CarryingLaws.{loop_first, loop_found, loop_end}
+use Rattle.whole_strings.proofs.CarryingLaws.{loop_first, loop_found, loop_end}
 use Rattle.whole_strings.proofs.each_optimum.carry_down.Goals as goal
 
 pub places-init : goal.places-init

@@ -1,4 +1,4 @@
-use Rattle.whole_strings.specs.CarryingLaws.{Carrying}
+use Rattle.whole_strings.proofs.CarryingLaws.{Carrying}
 use Rattle.whole_strings.proofs.each_optimum.carry_down.Given as goal
 
 abbrev pub invariant-places : goal.invariant-places

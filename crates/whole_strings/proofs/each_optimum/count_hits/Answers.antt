@@ -1,5 +1,5 @@
 use Rattle.std.proofs.Common.{◌<◌, ◌^◌, rules, arith}
-use Rattle.whole_strings.specs.CutStackLaws.{cut_open, cut_on, cut_end, cut_stack_few, cut_count_small}
+use Rattle.whole_strings.proofs.CutStackLaws.{cut_open, cut_on, cut_end, cut_stack_few, cut_count_small}
 use Rattle.whole_strings.proofs.each_optimum.count_hits.Goals as goal
 
 pub references-init : goal.references-init

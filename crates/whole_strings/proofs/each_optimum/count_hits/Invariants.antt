@@ -1,4 +1,4 @@
-use Rattle.whole_strings.specs.CutStackLaws.{CutCounting}
+use Rattle.whole_strings.proofs.CutStackLaws.{CutCounting}
 use Rattle.whole_strings.proofs.each_optimum.count_hits.Given as goal
 
 abbrev pub invariant-references : goal.invariant-references

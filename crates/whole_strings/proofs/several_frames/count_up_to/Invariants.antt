@@ -1,4 +1,4 @@
-use Rattle.whole_strings.specs.OptimumCountLaws.{UpTo}
+use Rattle.whole_strings.proofs.OptimumCountLaws.{UpTo}
 use Rattle.whole_strings.proofs.several_frames.count_up_to.Given as goal
 
 abbrev pub invariant-frames : goal.invariant-frames

@@ -3,7 +3,7 @@ use Rattle.std.specs.HashMap.{get}
 use Rattle.clock_policy.specs.declared.key.Key.{Key}
 use Rattle.page_policies.specs.Optimal.{next_use}
 use Rattle.page_policies.specs.Strings.{is_page}
-use Rattle.whole_strings.specs.NextUseLaws.{Known, known_more, use_is, back, uses_back}
+use Rattle.whole_strings.proofs.NextUseLaws.{Known, known_more, use_is, back, uses_back}
 use Rattle.whole_strings.proofs.string_uses.next_uses.Goals as goal
 
 pub loop-seen-preserved : goal.loop-seen-preserved

@@ -2,7 +2,7 @@ use Rattle.std.proofs.Common.{◌≡◌, ◌-◌, length, drop, reverse}
 use Rattle.std.specs.HashMap.{get}
 use Rattle.page_policies.specs.Strings.{is_page}
 use Rattle.page_policies.specs.NextUses.{next_uses}
-use Rattle.whole_strings.specs.NextUseLaws.{Known}
+use Rattle.whole_strings.proofs.NextUseLaws.{Known}
 use Rattle.whole_strings.proofs.string_uses.next_uses.Given as goal
 
 abbrev pub invariant-loop-seen : goal.invariant-loop-seen

@@ -1,7 +1,7 @@
 use Rattle.std.proofs.Common.{arith, refl}
 use Rattle.std.specs.HashSet.{contains}
 use Rattle.page_policies.specs.Strings.{is_page}
-use Rattle.write_backs.specs.WriteBackLaws.{written_first, written_last, reference_more}
+use Rattle.write_backs.proofs.WriteBackLaws.{written_first, written_last, reference_more}
 use Rattle.write_backs.proofs.dirty_pages.write_backs.Goals as goal
 
 pub references-init : goal.references-init

@@ -2,7 +2,7 @@ use Rattle.std.proofs.Common.{◌≡◌, ◌+◌, ◌≤◌, [], drop}
 use Rattle.std.specs.HashSet.{contains}
 use Rattle.page_policies.specs.Strings.{is_page}
 use Rattle.write_backs.specs.WriteBacks.{written_from, write_backs}
-use Rattle.write_backs.specs.WriteBackLaws.{before, Follows}
+use Rattle.write_backs.proofs.WriteBackLaws.{before, Follows}
 use Rattle.write_backs.proofs.dirty_pages.write_backs.Given as goal
 
 -- what is counted and what is to come make the whole

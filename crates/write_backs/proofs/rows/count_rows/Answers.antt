@@ -1,6 +1,6 @@
 use Rattle.std.proofs.Common.{subst}
 use Rattle.page_policies.specs.declared.frames.Frames.{Frames}
-use Rattle.miss_counts.specs.ZippedLaws.{zip_more}
+use Rattle.miss_counts.proofs.ZippedLaws.{zip_more}
 use Rattle.write_backs.specs.WrittenBack.{IsWrittenBack}
 use Rattle.write_backs.proofs.rows.count_rows.Goals as goal
 

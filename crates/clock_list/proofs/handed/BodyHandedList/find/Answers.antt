@@ -3,9 +3,9 @@ use Rattle.std.specs.Prelude.{◌≡◌, Some, find}
 use Rattle.std.proofs.Common.{ap, ◌∙◌}
 use Rattle.clock_policy.specs.declared.entry.Entry.{Entry}
 use Rattle.clock_policy.specs.ClockPro.{has_key}
-use Rattle.clock_policy.specs.AdmitLaws.{keyed}
-use Rattle.clock_policy.specs.FindLaws.{found_passes}
-use Rattle.clock_policy.specs.ListedLaws.{found_listed}
+use Rattle.clock_policy.proofs.AdmitLaws.{keyed}
+use Rattle.clock_policy.proofs.FindLaws.{found_passes}
+use Rattle.clock_policy.proofs.ListedLaws.{found_listed}
 use Rattle.clock_list.proofs.handed.BodyHandedList.find.Goals as goal
 
 pub found-requires : goal.found-requires

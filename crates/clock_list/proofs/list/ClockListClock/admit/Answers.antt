@@ -1,8 +1,8 @@
 -- the call keeps the state lawful
 use Rattle.std.proofs.Common.{ap, ◌∙◌}
-use Rattle.clock_policy.specs.ClockLaws.{admitted_lawful}
+use Rattle.clock_policy.proofs.ClockLaws.{admitted_lawful}
 use Rattle.clock_policy.specs.ClockPro.{ClockState}
-use Rattle.clock_policy.specs.KeptLaws.{admitted_frames}
+use Rattle.clock_policy.proofs.KeptLaws.{admitted_frames}
 use Rattle.clock_list.specs.BodyState.{state_of}
 use Rattle.clock_list.proofs.list.ClockListClock.admit.Goals as goal
 

@@ -1,9 +1,9 @@
 -- the call keeps the state lawful
 use Rattle.std.proofs.Common.{ap, ◌∙◌}
-use Rattle.clock_policy.specs.ClockLaws.{answered_lawful, lowers_at}
-use Rattle.clock_policy.specs.QuestionLaws.{refused_nowhere}
+use Rattle.clock_policy.proofs.ClockLaws.{answered_lawful, lowers_at}
+use Rattle.clock_policy.proofs.QuestionLaws.{refused_nowhere}
 use Rattle.clock_policy.specs.ClockPro.{ClockState}
-use Rattle.clock_policy.specs.KeptLaws.{answered_frames}
+use Rattle.clock_policy.proofs.KeptLaws.{answered_frames}
 use Rattle.clock_list.specs.BodyState.{state_of}
 use Rattle.clock_list.proofs.list.ClockListClock.answer.Goals as goal
 

@@ -1,7 +1,7 @@
 -- an empty list is lawful
 use Rattle.std.proofs.Common.{arith}
 use Rattle.std.proofs.lemmas.Grind.{common_steps}
-use Rattle.clock_policy.specs.ClockLaws.{opening_lawful}
+use Rattle.clock_policy.proofs.ClockLaws.{opening_lawful}
 use Rattle.clock_list.proofs.list.ClockListClock.new.Goals as goal
 
 pub invariant_of-result : goal.invariant_of-result

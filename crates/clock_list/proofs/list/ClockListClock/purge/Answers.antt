@@ -1,8 +1,8 @@
 -- the call keeps the state lawful
 use Rattle.std.proofs.Common.{ap, ◌∙◌}
-use Rattle.clock_policy.specs.ClockLaws.{purged_lawful}
+use Rattle.clock_policy.proofs.ClockLaws.{purged_lawful}
 use Rattle.clock_policy.specs.ClockPro.{ClockState}
-use Rattle.clock_policy.specs.KeptLaws.{purged_frames, purged_left_at}
+use Rattle.clock_policy.proofs.KeptLaws.{purged_frames, purged_left_at}
 use Rattle.clock_list.specs.BodyState.{state_of}
 use Rattle.clock_list.proofs.list.ClockListClock.purge.Goals as goal
 

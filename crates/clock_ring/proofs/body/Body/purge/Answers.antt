@@ -2,7 +2,7 @@ use Rattle.std.specs.Prelude.{◌≡◌, ◌<◌, ◌+◌, ◌==◌, ◌≢◌, 
 use Rattle.std.proofs.Common.{arith, sym, subst}
 use Rattle.std.proofs.lemmas.Bool.Decides.{nat_tests}
 use Rattle.clock_policy.specs.ClockPro.{purged}
-use Rattle.clock_policy.specs.SingleMoveLaws.{purged_by_moves}
+use Rattle.clock_policy.proofs.SingleMoveLaws.{purged_by_moves}
 use Rattle.clock_ring.specs.declared.body.Body.{Body}
 use Rattle.clock_ring.specs.BodyState.{state_of}
 use Rattle.clock_ring.proofs.ScanLaws.{stands}

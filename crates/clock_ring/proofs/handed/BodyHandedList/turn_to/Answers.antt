@@ -4,7 +4,7 @@ use Rattle.clock_policy.specs.declared.answer.Bit.TheVariants.{Zero, One, Gone}
 use Rattle.clock_policy.specs.declared.entry.EntryKind.TheVariants.{Cold}
 use Rattle.clock_policy.specs.ClockPro.{turned_to}
 use Rattle.clock_policy.specs.SingleMoves.{front_turned, front_answered}
-use Rattle.clock_policy.specs.HotMoveLaws.{turned_by_moves}
+use Rattle.clock_policy.proofs.HotMoveLaws.{turned_by_moves}
 use Rattle.clock_ring.specs.BodyState.{state_of}
 use Rattle.clock_ring.proofs.PassLaws.{held_in, marked_some}
 use Rattle.clock_ring.proofs.handed.BodyHandedList.turn_to.Goals as goal

@@ -2,9 +2,9 @@
 use Rattle.std.specs.Prelude.{◌≡◌, ◌-◌}
 use Rattle.std.proofs.Common.{arith, ap, ◌∙◌}
 use Rattle.clock_ring.proofs.KeptLaws.{purge_left}
-use Rattle.clock_policy.specs.ClockLaws.{purged_lawful}
+use Rattle.clock_policy.proofs.ClockLaws.{purged_lawful}
 use Rattle.clock_policy.specs.ClockPro.{ClockState, purge_count}
-use Rattle.clock_policy.specs.KeptLaws.{purged_frames, purged_left_at}
+use Rattle.clock_policy.proofs.KeptLaws.{purged_frames, purged_left_at}
 use Rattle.clock_ring.specs.BodyState.{state_of}
 use Rattle.clock_ring.proofs.ring.ClockRingClock.purge.Goals as goal
 

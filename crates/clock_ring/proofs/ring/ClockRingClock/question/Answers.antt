@@ -1,5 +1,5 @@
 -- there is no question exactly where nothing is resident
-use Rattle.clock_policy.specs.QuestionLaws.{asked_nowhere}
+use Rattle.clock_policy.proofs.QuestionLaws.{asked_nowhere}
 use Rattle.clock_ring.specs.BodyState.{state_of}
 use Rattle.clock_ring.proofs.ring.ClockRingClock.question.Goals as goal
 

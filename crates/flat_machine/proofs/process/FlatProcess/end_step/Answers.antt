@@ -3,8 +3,8 @@ use Rattle.std.proofs.lemmas.Option.{slice_get-get_or}
 use Rattle.env_calls.specs.Step.{effect}
 use Rattle.env_calls.specs.Serving.{TakesMemory}
 use Rattle.flat_machine.specs.Process.{Process, hart_registers, may_step}
-use Rattle.flat_machine.specs.StepLaws.{started}
-use Rattle.flat_machine.specs.SettlingLaws.{room_to_spawn, settled, settled_as, went_alike}
+use Rattle.flat_machine.proofs.StepLaws.{started}
+use Rattle.flat_machine.proofs.SettlingLaws.{room_to_spawn, settled, settled_as, went_alike}
 use Rattle.flat_machine.proofs.PlainSteps.{stops_there}
 use Rattle.flat_machine.proofs.PlainCode.{effect_keeps, stepped_keeps}
 use Rattle.decoded_pages.proofs.Runs.{all_shown_on}

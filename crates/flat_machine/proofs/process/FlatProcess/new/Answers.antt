@@ -7,8 +7,8 @@ use Rattle.page_memory.specs.MemoryMap.{first_stack_pointer}
 use Rattle.rv_exec.specs.Registers.{Registers, cleared, with_register}
 use Rattle.env_calls.specs.Calls.{sp}
 use Rattle.flat_machine.specs.Process.{opening, opening_pages, first_break}
-use Rattle.flat_machine.specs.OpeningLaws.{image_page_at}
-use Rattle.flat_machine.specs.StepLaws.{whole_alone}
+use Rattle.flat_machine.proofs.OpeningLaws.{image_page_at}
+use Rattle.flat_machine.proofs.StepLaws.{whole_alone}
 use Rattle.flat_machine.proofs.process.FlatProcess.new.Goals as goal
 
 pub invariant_of-result : goal.invariant_of-result

@@ -1,6 +1,6 @@
 use Rattle.std.proofs.Common.{◌+◌, Some, arith, replicate, sym, subst, ap, ◌∙◌}
 use Rattle.flat_machine.specs.Process.{flat_run}
-use Rattle.flat_machine.specs.RunLaws.{flat_run_none, more_steps, one_more_step}
+use Rattle.flat_machine.proofs.RunLaws.{flat_run_none, more_steps, one_more_step}
 use Rattle.flat_machine.specs.Refusals.{WantsMemory}
 use Rattle.flat_machine.proofs.process.FlatProcess.repeat.Goals as goal
 

@@ -3,7 +3,7 @@ use Rattle.std.proofs.lemmas.List.{get_or_default}
 use Rattle.flat_machine.specs.declared.schedule.Turn.{Turn}
 use Rattle.flat_machine.specs.Schedule.{written_out}
 use Rattle.flat_machine.specs.Refusals.{StopsAt}
-use Rattle.flat_machine.specs.RunLaws.{flat_run_none}
+use Rattle.flat_machine.proofs.RunLaws.{flat_run_none}
 use Rattle.flat_machine.proofs.Runs.{one_more_turn, length_more, turns_split, stops_within}
 use Rattle.flat_machine.proofs.process.FlatProcess.run.Goals as goal
 

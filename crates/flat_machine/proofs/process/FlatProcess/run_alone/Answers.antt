@@ -1,7 +1,7 @@
 use Rattle.std.proofs.Common.{◌≡◌, ◌+◌, true, Some, ap, ◌∙◌, sym, subst, arith}
-use Rattle.flat_machine.specs.RunLaws.{by_turns_none, by_turns_more}
+use Rattle.flat_machine.proofs.RunLaws.{by_turns_none, by_turns_more}
 use Rattle.flat_machine.specs.Refusals.{WantsAt}
-use Rattle.flat_machine.specs.StepLaws.{goes_on_alike, is_live_in}
+use Rattle.flat_machine.proofs.StepLaws.{goes_on_alike, is_live_in}
 use Rattle.flat_machine.specs.Process.{may_step}
 use Rattle.flat_machine.proofs.Turning.{again, next_turn, more_turns, wants_after}
 use Rattle.flat_machine.proofs.process.FlatProcess.run_alone.Goals as goal

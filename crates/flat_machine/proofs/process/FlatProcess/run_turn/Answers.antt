@@ -1,7 +1,7 @@
 use Rattle.std.proofs.Common.{◌≡◌, true, sym, subst}
 use Rattle.flat_machine.specs.Process.{may_step}
-use Rattle.flat_machine.specs.StepLaws.{is_live_in}
-use Rattle.flat_machine.specs.RunLaws.{by_turns_one}
+use Rattle.flat_machine.proofs.StepLaws.{is_live_in}
+use Rattle.flat_machine.proofs.RunLaws.{by_turns_one}
 use Rattle.flat_machine.specs.Refusals.{WantsAt}
 use Rattle.flat_machine.proofs.Turning.{wants_now}
 use Rattle.flat_machine.proofs.process.FlatProcess.run_turn.Goals as goal

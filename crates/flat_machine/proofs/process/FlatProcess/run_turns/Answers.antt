@@ -1,5 +1,5 @@
 use Rattle.std.proofs.Common.{Some, ap, sym, ◌∙◌, arith}
-use Rattle.flat_machine.specs.RunLaws.{by_turns_none}
+use Rattle.flat_machine.proofs.RunLaws.{by_turns_none}
 use Rattle.flat_machine.proofs.Turning.{more_turns, wants_later}
 use Rattle.flat_machine.proofs.process.FlatProcess.run_turns.Goals as goal
 

@@ -1,6 +1,6 @@
 use Rattle.std.proofs.Common.{length, ◌+◌, arith, ap, sym, ◌∙◌, subst}
 use Rattle.flat_machine.specs.Schedule.{rest_in_last, IsJoined}
-use Rattle.flat_machine.specs.TurnsLaws.{rest_new, joined_more}
+use Rattle.flat_machine.proofs.TurnsLaws.{rest_new, joined_more}
 use Rattle.flat_machine.proofs.schedule.Schedule.begin.Goals as goal
 
 pub invariant_of-self : goal.invariant_of-self

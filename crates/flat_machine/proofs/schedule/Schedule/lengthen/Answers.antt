@@ -1,6 +1,6 @@
 use Rattle.std.proofs.Common.{◌≡◌, ◌≤◌, ◌-◌, ◌+◌, ◌++◌, length, replicate, arith, ap, ◌∙◌}
 use Rattle.flat_machine.specs.Schedule.{written_out, rest_in_last}
-use Rattle.flat_machine.specs.TurnsLaws.{last_there, last_turn_at, written_up, joined_up, rest_up}
+use Rattle.flat_machine.proofs.TurnsLaws.{last_there, last_turn_at, written_up, joined_up, rest_up}
 use Rattle.flat_machine.proofs.schedule.Schedule.lengthen.Goals as goal
 
 pub overflow_sub-last : goal.overflow_sub-last

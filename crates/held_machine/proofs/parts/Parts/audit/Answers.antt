@@ -3,8 +3,8 @@ use Rattle.std.proofs.Common.{◌≡◌, ◌<◌, length, refl, arith, map, subs
 use Rattle.std.proofs.lemmas.List.{take_all}
 use Rattle.clock_policy.specs.Lawful.{Lawful}
 use Rattle.machine_sides.specs.Sides.{PagerSideValue}
-use Rattle.machine_sides.specs.AuditLaws.{CountedSo, counted_none, counted_next, not_sound, sound_all}
-use Rattle.machine_sides.specs.EverywhereLaws.{everywhere}
+use Rattle.machine_sides.proofs.AuditLaws.{CountedSo, counted_none, counted_next, not_sound, sound_all}
+use Rattle.machine_sides.proofs.EverywhereLaws.{everywhere}
 use Rattle.held_machine.specs.Audit.{space_in}
 use Rattle.held_machine.proofs.Audited.{held_sound, sound_held}
 use Rattle.held_machine.proofs.parts.Parts.audit.Goals as goal

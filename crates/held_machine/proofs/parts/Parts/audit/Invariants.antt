@@ -1,6 +1,6 @@
 -- The processes so far were counted.
 use Rattle.std.proofs.Common.{map, take}
-use Rattle.machine_sides.specs.AuditLaws.{CountedSo}
+use Rattle.machine_sides.proofs.AuditLaws.{CountedSo}
 use Rattle.held_machine.specs.Audit.{space_in}
 use Rattle.held_machine.proofs.parts.Parts.audit.Given as goal
 

@@ -1,6 +1,6 @@
 use Rattle.std.proofs.Common.{Ok, sym, ap, ◌∙◌}
 use Rattle.page_memory.specs.Memory.{copied_in}
-use Rattle.page_memory.specs.MemoryLaws.{copied_of, copied_fault}
+use Rattle.page_memory.proofs.MemoryLaws.{copied_of, copied_fault}
 use Rattle.page_memory.proofs.flat_memory.FlatMemory.copy_in.Goals as goal
 
 pub returns-in-Ok-clause-ok : goal.returns-in-Ok-clause-ok

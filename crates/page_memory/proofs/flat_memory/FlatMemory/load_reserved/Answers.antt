@@ -1,6 +1,6 @@
 use Rattle.std.proofs.Common.{sym, ap, ◌∙◌}
 use Rattle.page_memory.specs.Memory.{loaded_reserved}
-use Rattle.page_memory.specs.MemoryLaws.{reserved_of, reserved_fault}
+use Rattle.page_memory.proofs.MemoryLaws.{reserved_of, reserved_fault}
 use Rattle.page_memory.proofs.flat_memory.FlatMemory.load_reserved.Goals as goal
 
 pub returns-in-Ok-clause-ok : goal.returns-in-Ok-clause-ok

@@ -1,7 +1,7 @@
 use Rattle.std.proofs.Common.{Ok, sym, ap, ◌∙◌}
 use Rattle.page_memory.specs.Reservations.{left_by}
 use Rattle.page_memory.specs.Memory.{stored}
-use Rattle.page_memory.specs.MemoryLaws.{stored_of, stored_fault}
+use Rattle.page_memory.proofs.MemoryLaws.{stored_of, stored_fault}
 use Rattle.page_memory.proofs.flat_memory.FlatMemory.store.Goals as goal
 
 pub returns-in-Ok-clause-ok : goal.returns-in-Ok-clause-ok

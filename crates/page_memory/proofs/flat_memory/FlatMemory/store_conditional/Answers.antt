@@ -1,7 +1,7 @@
 use Rattle.std.proofs.Common.{true, false, Ok, sym, ap, ◌∙◌}
 use Rattle.page_memory.specs.Reservations.{left_by}
 use Rattle.page_memory.specs.Memory.{stored_conditionally}
-use Rattle.page_memory.specs.MemoryLaws.{conditional_of, conditional_fault, untested, untested_fault}
+use Rattle.page_memory.proofs.MemoryLaws.{conditional_of, conditional_fault, untested, untested_fault}
 use Rattle.page_memory.proofs.flat_memory.FlatMemory.store_conditional.Goals as goal
 
 pub returns-in-Ok-clause-ok : goal.returns-in-Ok-clause-ok

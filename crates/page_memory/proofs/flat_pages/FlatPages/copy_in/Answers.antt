@@ -8,8 +8,8 @@ use Rattle.page_memory.specs.Pages.{Page, copied_in, overwritten}
 use Rattle.page_memory.specs.Entries.{place_of, value_at, with_value}
 use Rattle.page_memory.specs.Remembered.{Remembers}
 use Rattle.page_memory.proofs.PageRows.{had}
-use Rattle.page_memory.specs.AccessLaws.{copied_at}
-use Rattle.page_memory.specs.RememberedLaws.{still_remembered}
+use Rattle.page_memory.proofs.AccessLaws.{copied_at}
+use Rattle.page_memory.proofs.RememberedLaws.{still_remembered}
 use Rattle.page_memory.proofs.flat_pages.FlatPages.copy_in.Goals as goal
 
 pub returns-clause-ok : goal.returns-clause-ok

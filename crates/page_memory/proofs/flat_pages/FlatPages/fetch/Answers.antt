@@ -6,7 +6,7 @@ use Rattle.page_memory.specs.Entries.{value_at}
 use Rattle.page_memory.proofs.PageRows.{had}
 use Rattle.page_memory.specs.Words.{page_number}
 use Rattle.page_memory.specs.Remembered.{LeadsTo}
-use Rattle.page_memory.specs.RememberedLaws.{remembered_for, fetched_led, stands_led}
+use Rattle.page_memory.proofs.RememberedLaws.{remembered_for, fetched_led, stands_led}
 use Rattle.page_memory.proofs.flat_pages.FlatPages.fetch.Goals as goal
 
 pub offset_past-requires : goal.offset_past-requires

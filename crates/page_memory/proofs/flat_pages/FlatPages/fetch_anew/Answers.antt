@@ -6,7 +6,7 @@ use Rattle.page_memory.specs.Entries.{place_of, value_at}
 use Rattle.page_memory.specs.Pages.{Page, fetched}
 use Rattle.page_memory.proofs.PageRows.{had}
 use Rattle.page_memory.specs.Remembered.{StandsAt}
-use Rattle.page_memory.specs.RememberedLaws.{fetched_there, stands_of, one_remembered}
+use Rattle.page_memory.proofs.RememberedLaws.{fetched_there, stands_of, one_remembered}
 use Rattle.page_memory.proofs.flat_pages.FlatPages.fetch_anew.Goals as goal
 
 pub returns-clause-word : goal.returns-clause-word

@@ -6,7 +6,7 @@ use Rattle.page_memory.specs.Remembered.{StandsAt}
 use Rattle.page_memory.specs.Entries.{place_of, value_at}
 use Rattle.page_memory.specs.Pages.{Page, loaded}
 use Rattle.page_memory.proofs.PageRows.{had}
-use Rattle.page_memory.specs.RememberedLaws.{loaded_there, stands_of, one_remembered}
+use Rattle.page_memory.proofs.RememberedLaws.{loaded_there, stands_of, one_remembered}
 use Rattle.page_memory.proofs.flat_pages.FlatPages.load_anew.Goals as goal
 
 pub invariant_of-self : goal.invariant_of-self

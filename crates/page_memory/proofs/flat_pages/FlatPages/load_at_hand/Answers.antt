@@ -6,7 +6,7 @@ use Rattle.page_memory.specs.Pages.{Page, loaded}
 use Rattle.page_memory.specs.Entries.{value_at}
 use Rattle.page_memory.proofs.PageRows.{had}
 use Rattle.page_memory.specs.Remembered.{LeadsTo}
-use Rattle.page_memory.specs.RememberedLaws.{remembered_for, below_four, loaded_led, stands_led}
+use Rattle.page_memory.proofs.RememberedLaws.{remembered_for, below_four, loaded_led, stands_led}
 use Rattle.page_memory.proofs.flat_pages.FlatPages.load_at_hand.Goals as goal
 
 pub offset_past-requires : goal.offset_past-requires

@@ -1,4 +1,4 @@
-use Rattle.page_memory.specs.RememberedLaws.{nothing_remembered}
+use Rattle.page_memory.proofs.RememberedLaws.{nothing_remembered}
 use Rattle.page_memory.proofs.flat_pages.FlatPages.new.Goals as goal
 
 pub invariant_of-result : goal.invariant_of-result

@@ -8,9 +8,9 @@ use Rattle.page_memory.specs.Rights.{may}
 use Rattle.page_memory.specs.Pages.{Page, overwritten, stored}
 use Rattle.page_memory.specs.Entries.{place_of, value_at, with_value}
 use Rattle.page_memory.proofs.PageRows.{had}
-use Rattle.page_memory.specs.AccessLaws.{stored_at}
+use Rattle.page_memory.proofs.AccessLaws.{stored_at}
 use Rattle.page_memory.specs.Remembered.{StandsAt, Remembers}
-use Rattle.page_memory.specs.RememberedLaws.{stands_of, one_remembered, still_remembered}
+use Rattle.page_memory.proofs.RememberedLaws.{stands_of, one_remembered, still_remembered}
 use Rattle.page_memory.proofs.flat_pages.FlatPages.store_anew.Goals as goal
 
 pub returns-clause-ok : goal.returns-clause-ok

@@ -8,7 +8,7 @@ use Rattle.page_memory.specs.Pages.{Page, overwritten, stored}
 use Rattle.page_memory.specs.Entries.{value_at, with_value}
 use Rattle.page_memory.specs.Remembered.{LeadsTo, Remembers}
 use Rattle.page_memory.proofs.PageRows.{had}
-use Rattle.page_memory.specs.RememberedLaws.{remembered_for, below_four, stored_led, still_remembered, stands_led}
+use Rattle.page_memory.proofs.RememberedLaws.{remembered_for, below_four, stored_led, still_remembered, stands_led}
 use Rattle.page_memory.proofs.flat_pages.FlatPages.store_at_hand.Goals as goal
 
 pub offset_past-requires : goal.offset_past-requires

@@ -2,7 +2,7 @@ use Rattle.std.proofs.Common.{◌≡◌, ◌/◌, Ok, Some, sym, ap, ◌∙◌, 
 use Rattle.page_memory.specs.Words.{page_number}
 use Rattle.page_memory.specs.Entries.{place_of, value_at}
 use Rattle.page_memory.specs.Pages.{Page, answer_by, usable}
-use Rattle.page_memory.specs.RememberedLaws.{stands_of}
+use Rattle.page_memory.proofs.RememberedLaws.{stands_of}
 use Rattle.page_memory.proofs.PageRows.{had, not_usable, usable_there}
 use Rattle.page_memory.proofs.flat_pages.FlatPages.usable_bytes.Goals as goal
 

@@ -5,7 +5,7 @@ use Rattle.page_memory.specs.Pages.{zero_page}
 use Rattle.page_memory.specs.PageRow.{pages_in}
 use Rattle.page_memory.specs.Rights.{read_write}
 use Rattle.page_memory.specs.Entries.{with_added, LacksOne}
-use Rattle.page_memory.specs.EntriesLaws.{front_stays, grown_lacks}
+use Rattle.page_memory.proofs.EntriesLaws.{front_stays, grown_lacks}
 use Rattle.page_memory.proofs.PageRows.{zeros, zeroed_row, row_lacks}
 use Rattle.page_memory.proofs.page_row.PageRow.add_zeroed.Goals as goal
 

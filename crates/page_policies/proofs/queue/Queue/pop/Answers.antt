@@ -3,7 +3,7 @@ use Rattle.std.specs.Map.{keys_of}
 use Rattle.clock_policy.specs.declared.key.Key.{Key}
 use Rattle.lru.specs.LruCache.{LruCache}
 use Rattle.page_policies.specs.Ordered.{but_last}
-use Rattle.page_policies.specs.OrderedLaws.{others_keys}
+use Rattle.page_policies.proofs.OrderedLaws.{others_keys}
 use Rattle.page_policies.proofs.queue.Queue.pop.Goals as goal
 
 pub returns-clause-others : goal.returns-clause-others

@@ -1,6 +1,6 @@
 use Rattle.std.proofs.Common.{arith, ap, ◌∙◌}
 use Rattle.page_policies.specs.Ordered.{to_front}
-use Rattle.page_policies.specs.OrderedLaws.{front_keys}
+use Rattle.page_policies.proofs.OrderedLaws.{front_keys}
 use Rattle.page_policies.proofs.queue.Queue.push.Goals as goal
 
 pub returns : goal.returns

@@ -1,7 +1,7 @@
 use Rattle.std.proofs.Common.{[], length, subst}
 use Rattle.page_memory.specs.declared.words.Access.TheVariants.{Fetch, Load, Store}
 use Rattle.page_memory.specs.Memory.{fetched, loaded, stored, replaced, loaded_reserved, stored_conditionally, copied_out, copied_in}
-use Rattle.rv_exec.specs.AccessLaws.{conditional_page, reserving_page}
+use Rattle.rv_exec.proofs.AccessLaws.{conditional_page, reserving_page}
 use Rattle.rv_exec.specs.Amo.{amo_result}
 use Rattle.rv_exec.specs.Answers.{with_answer}
 use Rattle.rv_exec.specs.Bounds.{Bounds}

@@ -1,7 +1,7 @@
 use Rattle.std.proofs.Common.{arith, sym, ap, ◌∙◌, Ok}
 use Rattle.page_memory.specs.declared.words.Access.TheVariants.{Store}
 use Rattle.page_memory.specs.Memory.{replaced}
-use Rattle.page_memory.specs.MemoryLaws.{replaced_of}
+use Rattle.page_memory.proofs.MemoryLaws.{replaced_of}
 use Rattle.rv_exec.specs.Amo.{amo_result}
 use Rattle.paged_memory.specs.Access.{LacksPage}
 use Rattle.paged_memory.specs.Paged.{memory_in}

@@ -1,7 +1,7 @@
 use Rattle.std.proofs.Common.{arith, sym, ap, ◌∙◌, Ok}
 use Rattle.page_memory.specs.declared.words.Access.TheVariants.{Store}
 use Rattle.page_memory.specs.Memory.{copied_in}
-use Rattle.page_memory.specs.MemoryLaws.{copied_of}
+use Rattle.page_memory.proofs.MemoryLaws.{copied_of}
 use Rattle.paged_memory.specs.Access.{LacksPage}
 use Rattle.paged_memory.specs.Paged.{memory_in}
 use Rattle.paged_memory.proofs.ReservationLaws.{copy_refused}

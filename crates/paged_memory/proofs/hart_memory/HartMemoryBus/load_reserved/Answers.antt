@@ -1,6 +1,6 @@
 use Rattle.std.proofs.Common.{sym, ap, ◌∙◌, subst}
 use Rattle.page_memory.specs.declared.words.Access.TheVariants.{Load}
-use Rattle.page_memory.specs.MemoryLaws.{reserved_of}
+use Rattle.page_memory.proofs.MemoryLaws.{reserved_of}
 use Rattle.page_memory.specs.Reservations.{with_reserved}
 use Rattle.page_memory.specs.Words.{page_number}
 use Rattle.paged_memory.specs.Access.{LacksPage, MarksUse, cache_of}

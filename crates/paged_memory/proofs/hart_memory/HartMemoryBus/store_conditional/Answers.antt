@@ -1,7 +1,7 @@
 use Rattle.std.proofs.Common.{arith, sym, ap, ◌∙◌, true, false, Ok, ℕ}
 use Rattle.page_memory.specs.declared.words.Access.TheVariants.{Store}
 use Rattle.page_memory.specs.Memory.{stored_conditionally}
-use Rattle.page_memory.specs.MemoryLaws.{conditional_of, untested}
+use Rattle.page_memory.proofs.MemoryLaws.{conditional_of, untested}
 use Rattle.page_memory.specs.Reservations.{left_by}
 use Rattle.paged_memory.specs.Access.{LacksPage}
 use Rattle.paged_memory.specs.Paged.{memory_in}

@@ -1,7 +1,7 @@
 use Rattle.std.proofs.Common.{◌≡◌, refl, sym, ap, ◌∙◌, subst}
 use Rattle.std.specs.Prelude.{Ok}
 use Rattle.page_memory.specs.Memory.{stored}
-use Rattle.page_memory.specs.MemoryLaws.{stored_of}
+use Rattle.page_memory.proofs.MemoryLaws.{stored_of}
 use Rattle.page_memory.specs.Words.{bytes_in}
 use Rattle.page_memory.proofs.Reserving.{nothing_left}
 use Rattle.paged_memory.specs.Paged.{PagedValue, memory_in, memory_of}

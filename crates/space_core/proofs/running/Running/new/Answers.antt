@@ -1,6 +1,6 @@
 use Rattle.std.proofs.Common.{arith, ap, length}
 use Rattle.env_calls.specs.Environment.{Environment}
-use Rattle.flat_machine.specs.StepLaws.{whole_alone}
+use Rattle.flat_machine.proofs.StepLaws.{whole_alone}
 use Rattle.space_core.specs.RunningValue.{with_memory}
 use Rattle.space_core.proofs.running.Running.new.Goals as goal
 

@@ -1,9 +1,9 @@
 use Rattle.std.proofs.Common.{subst}
 use Rattle.paged_memory.specs.Copies.{LeavesCopies}
-use Rattle.paged_memory.specs.CopiesCallLaws.{begun_copies}
+use Rattle.paged_memory.proofs.CopiesCallLaws.{begun_copies}
 use Rattle.space_core.specs.StandsFor.{SpaceValue}
-use Rattle.paged_memory.specs.NoticesLaws.{begun_harts}
-use Rattle.paged_memory.specs.ShowingLaws.{begun_given_up}
+use Rattle.paged_memory.proofs.NoticesLaws.{begun_harts}
+use Rattle.paged_memory.proofs.ShowingLaws.{begun_given_up}
 use Rattle.space_core.proofs.CodeSpaces.{decoded_memory}
 use Rattle.space_core.proofs.space.Space.begin_clean.Goals as goal
 

@@ -1,9 +1,9 @@
 use Rattle.std.proofs.Common.{subst}
 use Rattle.paged_memory.specs.Copies.{LeavesCopies}
-use Rattle.paged_memory.specs.CopiesCallLaws.{left_copies}
+use Rattle.paged_memory.proofs.CopiesCallLaws.{left_copies}
 use Rattle.space_core.specs.StandsFor.{SpaceValue}
-use Rattle.paged_memory.specs.NoticesLaws.{left_harts}
-use Rattle.paged_memory.specs.ShowingLaws.{left_given_up}
+use Rattle.paged_memory.proofs.NoticesLaws.{left_harts}
+use Rattle.paged_memory.proofs.ShowingLaws.{left_given_up}
 use Rattle.space_core.proofs.CodeSpaces.{decoded_memory}
 use Rattle.space_core.proofs.space.Space.begin_evict.Goals as goal
 

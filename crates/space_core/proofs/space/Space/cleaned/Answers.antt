@@ -1,8 +1,8 @@
 use Rattle.std.proofs.Common.{subst}
-use Rattle.paged_memory.specs.CopiesCallLaws.{copies_back}
+use Rattle.paged_memory.proofs.CopiesCallLaws.{copies_back}
 use Rattle.paged_memory.specs.Cleaning.{CopiesBack}
 use Rattle.space_core.specs.StandsFor.{SpaceValue}
-use Rattle.paged_memory.specs.ShowingLaws.{ended_given_up}
+use Rattle.paged_memory.proofs.ShowingLaws.{ended_given_up}
 use Rattle.space_core.proofs.CodeSpaces.{decoded_pages_same}
 use Rattle.space_core.proofs.space.Space.cleaned.Goals as goal
 

@@ -1,8 +1,8 @@
 use Rattle.std.proofs.Common.{subst}
-use Rattle.paged_memory.specs.CopiesCallLaws.{copies_out}
+use Rattle.paged_memory.proofs.CopiesCallLaws.{copies_out}
 use Rattle.paged_memory.specs.Cleaning.{CopiesOut}
 use Rattle.space_core.specs.StandsFor.{SpaceValue}
-use Rattle.paged_memory.specs.ShowingLaws.{copied_given_up}
+use Rattle.paged_memory.proofs.ShowingLaws.{copied_given_up}
 use Rattle.space_core.proofs.CodeSpaces.{decoded_pages_same}
 use Rattle.space_core.proofs.space.Space.copy_clean.Goals as goal
 

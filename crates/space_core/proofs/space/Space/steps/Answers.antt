@@ -1,5 +1,5 @@
 use Rattle.std.proofs.Common.{sym, ◌∙◌}
-use Rattle.flat_machine.specs.StepLaws.{not_ended}
+use Rattle.flat_machine.proofs.StepLaws.{not_ended}
 use Rattle.space_core.proofs.StepsOn.{then_refused}
 use Rattle.space_core.proofs.space.Space.steps.Goals as goal
 

@@ -1,4 +1,4 @@
-use Rattle.paged_memory.specs.NoticesLaws.{noticed_harts, noticed_only}
+use Rattle.paged_memory.proofs.NoticesLaws.{noticed_harts, noticed_only}
 use Rattle.space_core.specs.StandsFor.{SpaceValue}
 use Rattle.space_core.proofs.CodeSpaces.{decoded_cached}
 use Rattle.space_core.proofs.space.Space.take_notices.Goals as goal

@@ -1,7 +1,7 @@
 use Rattle.std.proofs.Common.{sym, ap, ◌∙◌, subst, List}
 use Rattle.tlb_core.specs.declared.translation.Translation.{Translation}
 use Rattle.tlb_core.specs.Cache.{OnePerPage, has_mark}
-use Rattle.tlb_core.specs.CacheLaws.{marked_as}
+use Rattle.tlb_core.proofs.CacheLaws.{marked_as}
 use Rattle.tlb_core.proofs.tlb.Tlb.holds_dirty.Goals as goal
 
 pub returns-in-Some : goal.returns-in-Some

@@ -2,7 +2,7 @@ use Rattle.std.proofs.Common.{◌≡◌, ◌≤◌, ◌+◌, ◌*◌, ◌/◌, �
 use Rattle.page_memory.specs.Words.{page_number, bytes_in}
 use Rattle.page_memory.specs.declared.recent_pages.RecentPage.{RecentPage}
 use Rattle.page_memory.specs.RecentPages.{recent_of}
-use Rattle.page_memory.specs.RememberedLaws.{below_four}
+use Rattle.page_memory.proofs.RememberedLaws.{below_four}
 use Rattle.tlb_core.specs.Cache.{Hits}
 use Rattle.tlb_core.proofs.ReadyLaws.{served}
 use Rattle.tlb_core.proofs.tlb.Tlb.ready.Goals as goal

@@ -1,0 +1,14 @@
+pub mod AdmitLaws
+pub mod ClockLaws
+pub mod CountLaws
+pub mod FindLaws
+pub mod HotMoveLaws
+pub mod KeptLaws
+pub mod ListedLaws
+pub mod LookupLaws
+pub mod QuestionLaws
+pub mod ResidentLaws
+pub mod SettledLaws
+pub mod SingleMoveLaws
+pub mod SteadyLaws
+pub mod TrimMoveLaws

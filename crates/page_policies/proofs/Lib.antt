@@ -1,0 +1,5 @@
+pub mod OrderedLaws
+pub mod StepLaws
+pub mod InclusionLaws
+pub mod SlotPlayLaws
+pub mod MoreFramesLaws

@@ -1,0 +1,7 @@
+pub mod TwoQueuePlayLaws
+pub mod ArcPlayLaws
+pub mod SievePlayLaws
+pub mod S3FifoPlayLaws
+pub mod ClockPlayLaws
+pub mod RoomLaws
+pub mod LirsPlayLaws

@@ -6,14 +6,6 @@ use Rattle.clock_policy.specs.declared.refusal.Refusal.{Refusal}
 use Rattle.clock_policy.specs.ClockPro.{ClockState, number, is_of_process, purged, purge_count, relisted}
 use Rattle.clock_policy.specs.Lawful.{Lawful}
 
-pub kept_lawful : {T : Type 0} (r : Result T Refusal) (old next new : ClockState) → OnOk r (new ≡ next) → OnErr r (new ≡ old) → Lawful old → Lawful next → Lawful new
-kept_lawful (Ok x) old next new moved same h g = subst Lawful (sym moved) g
-kept_lawful (Err e) old next new moved same h g = subst Lawful (sym same) h
-
-pub kept_frames : {T : Type 0} (r : Result T Refusal) (old next new : ClockState) → OnOk r (new ≡ next) → OnErr r (new ≡ old) → next.frames ≡ old.frames → new.frames ≡ old.frames
-kept_frames (Ok x) old next new moved same h = ap (λ (s : ClockState). s.frames) moved ∙ h
-kept_frames (Err e) old next new moved same h = ap (λ (s : ClockState). s.frames) same
-
 -- what a purge takes, and what it leaves
 pub purge_length : (process : ℕ) (s : ClockState) → length (purged process s).entries + purge_count process s ≡ length s.entries
 unfolding purged relisted

@@ -7,14 +7,8 @@ use Rattle.debug_core.specs.Stops.{harts_before, moment_after, turn_in, Moment}
 both_ways : {A B C : Type 0} → A ↔ B → B ↔ C → A ↔ C
 both_ways one other = ((λ a. other.0 (one.0 a)), (λ c. one.1 (other.1 c)))
 
-pub room_same : (limits : Limit → Type 0) → KeepsRoom limits limits
-room_same limits harts hart = ((λ f. f), (λ f. f))
-
 pub room_twice : (old between new : Limit → Type 0) → KeepsRoom old between → KeepsRoom between new → KeepsRoom old new
 room_twice old between new one other harts hart = both_ways (other harts hart) (one harts hart)
-
-pub room_then_one : (ran : ℕ) (old between new : Limit → Type 0) → KeepsRoom old between → RecordsOne ran between new → RecordsOne ran old new
-room_then_one ran old between new one other harts hart = both_ways (other harts hart) (one (ran ∷ harts) hart)
 
 -- what can be recorded after so many steps of a run, by what could be recorded before the first
 abbrev pub RoomAfter : (Limit → Type 0) → (Limit → Type 0) → ℕ → Moment → Type 0

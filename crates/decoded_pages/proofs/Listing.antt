@@ -56,9 +56,6 @@ whole_page page bytes rights old decoded aligned small long pushed below class c
 
 -- ---- ends of straight lines, from the last instruction back
 
-pub no_lines : (instructions : List DecodedInstruction) (ends : List ℕ) → LinesFrom 1024 instructions ends
-no_lines instructions ends = λ place d e above below. absurd (omega arith)
-
 at_first : (place first : ℕ) → first ≤ place → place ≢ first → first + 1 ≤ place
 at_first place first above apart = omega arith
 

@@ -152,14 +152,6 @@ pub next_is_some : (hart : ℕ) (live : List Bool) → any_live live ≡ true �
 unfolding next_live any_live least_live_from
 next_is_some hart live some = either_some (least_live_from (hart + 1) live) (least_live_from 0 live) (position_some 0 live some)
 
--- where a hart is live, some hart is
-pub live_is_some : (hart : ℕ) (live : List Bool) → slice_index_or live hart false ≡ true → any_live live ≡ true
-unfolding any_live
-live_is_some hart [] e = absurd (true≢false (sym e))
-live_is_some hart (true ∷ live) e = refl
-live_is_some zero (false ∷ live) e = absurd (true≢false (sym e))
-live_is_some (suc hart) (false ∷ live) e = live_is_some hart live e
-
 -- one more live hart
 pub more_is_some : (live : List Bool) → any_live (live ++ true ∷ []) ≡ true
 unfolding any_live

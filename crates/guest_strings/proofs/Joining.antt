@@ -24,10 +24,6 @@ joined_other held next string other =
     one held next string ∙ ap (λ b. cond b (joined_to (both held next) string) (held ∷ joined_to next string)) other
     ∙ ap (λ rest. held ∷ rest) (whole next string)
 
-pub joined_one : (held : Reference) → joined (held ∷ []) ≡ held ∷ []
-unfolding joined joined_to
-joined_one held = refl
-
 pub joined_none : joined [] ≡ []
 unfolding joined
 joined_none = refl

@@ -1,2 +1,1 @@
 pub mod Heeded
-pub mod Audited

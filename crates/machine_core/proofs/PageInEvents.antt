@@ -35,12 +35,6 @@ set_same [] i x h = cc
 set_same (y ∷ ys) zero x h = let same : y ≡ x = cc in ap (λ z. z ∷ ys) (sym same)
 set_same (y ∷ ys) (suc i) x h = ap (λ l. y ∷ l) (set_same ys i x h)
 
--- where no process has the number
-pub no_process : {S : Type 0} (reason : SpaceValue S → Option EventRefusal) (processes : List (SpaceValue S)) (p : ℕ) → length processes ≤ p → of_process reason (slice_get processes p) ≡ Some refusal.NoProcess
-no_process reason [] p past = refl
-no_process reason (q ∷ qs) zero past = absurd (omega arith)
-no_process reason (q ∷ qs) (suc p) past = no_process reason qs p (omega arith)
-
 -- no reason is that the page is listed
 not_listed : (ended absent none : Bool) → first_reason ended absent none ≡ Some AlreadyResident → ⊥
 unfolding first_reason

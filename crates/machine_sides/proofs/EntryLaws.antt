@@ -19,10 +19,6 @@ together true true h k = refl
 together true false h k = cc
 together false b h k = cc
 
-pub opposite : (a : Bool) → a ≡ true → not a ≡ false
-opposite true h = refl
-opposite false h = cc
-
 -- ---- counts of entries
 
 -- where each that passes one test passes another too
@@ -44,9 +40,6 @@ apart_numbers p q r (e ∷ es) all = omega (arith, all e, apart_numbers p q r es
 pub parted_numbers : (p q r : Entry → Bool) (es : List Entry) → ((e : Entry) → cond {A = ℕ} (p e) 1 0 ≤ cond (q e) 1 0 + cond (r e) 1 0) → number p es ≤ number q es + number r es
 parted_numbers p q r [] all = omega arith
 parted_numbers p q r (e ∷ es) all = omega (arith, all e, parted_numbers p q r es all)
-
-pub no_numbers : (p q : Entry → Bool) (es : List Entry) → ((e : Entry) → p e ≡ true → q e ≡ true) → number q es ≡ 0 → number p es ≡ 0
-no_numbers p q es all none = omega (arith, less_numbers p q es all, none)
 
 -- the keys of entries differ
 abbrev pub Distinct : List Entry → Type 0

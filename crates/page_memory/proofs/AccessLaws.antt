@@ -18,14 +18,6 @@ pub usable_found : (memory : Pages) (access : Access) (address : ℕ) (page : Pa
 unfolding usable
 usable_found memory access address page found allowed = ap (with_right access) found ∙ ap (λ b. page_if b page) allowed
 
-pub usable_forbidden : (memory : Pages) (access : Access) (address : ℕ) (page : Page) → get memory (page_number address) ≡ Some page → may access page.rights ≡ false → usable memory access address ≡ Err PageFault
-unfolding usable
-usable_forbidden memory access address page found refused = ap (with_right access) found ∙ ap (λ b. page_if b page) refused
-
-pub usable_unmapped : (memory : Pages) (access : Access) (address : ℕ) → get memory (page_number address) ≡ None → usable memory access address ≡ Err PageFault
-unfolding usable
-usable_unmapped memory access address none = ap (with_right access) none
-
 pub aligned_usable : (memory : Pages) (access : Access) (width address : ℕ) (answer : Result Page _) → address % width ≡ 0 → usable memory access address ≡ answer → aligned_page memory access width address ≡ answer
 unfolding aligned_page
 aligned_usable memory access width address answer aligned is = ap (λ b. if_aligned b (usable memory access address)) (eq-eqb (address % width) 0 aligned) ∙ is
@@ -34,33 +26,13 @@ pub stored_misaligned : (memory : Pages) (width : Width) (address word : ℕ) �
 unfolding stored aligned_page
 stored_misaligned memory width address word odd = ap (λ b. answer_by (memory_with memory address (little_bytes (bytes_in width) word)) (if_aligned b (usable memory Store address))) (ne_eqb (address % bytes_in width) 0 odd)
 
-pub stored_unmapped : (memory : Pages) (width : Width) (address word : ℕ) → address % bytes_in width ≡ 0 → get memory (page_number address) ≡ None → stored memory width address word ≡ Err PageFault
-unfolding stored
-stored_unmapped memory width address word aligned none = ap (answer_by (memory_with memory address (little_bytes (bytes_in width) word))) (aligned_usable memory Store (bytes_in width) address _ aligned (usable_unmapped memory Store address none))
-
-pub stored_forbidden : (memory : Pages) (width : Width) (address word : ℕ) (page : Page) → address % bytes_in width ≡ 0 → get memory (page_number address) ≡ Some page → may Store page.rights ≡ false → stored memory width address word ≡ Err PageFault
-unfolding stored
-stored_forbidden memory width address word page aligned found refused = ap (answer_by (memory_with memory address (little_bytes (bytes_in width) word))) (aligned_usable memory Store (bytes_in width) address _ aligned (usable_forbidden memory Store address page found refused))
-
 pub stored_done : (memory : Pages) (width : Width) (address word : ℕ) (page : Page) → address % bytes_in width ≡ 0 → get memory (page_number address) ≡ Some page → may Store page.rights ≡ true → stored memory width address word ≡ Ok (memory_with memory address (little_bytes (bytes_in width) word) page)
 unfolding stored
 stored_done memory width address word page aligned found allowed = ap (answer_by (memory_with memory address (little_bytes (bytes_in width) word))) (aligned_usable memory Store (bytes_in width) address _ aligned (usable_found memory Store address page found allowed))
 
-pub copied_unmapped : (memory : Pages) (address : ℕ) (bytes : List ℕ) → get memory (page_number address) ≡ None → copied_in memory address bytes ≡ Err PageFault
-unfolding copied_in
-copied_unmapped memory address bytes none = ap (answer_by (memory_with memory address bytes)) (usable_unmapped memory Store address none)
-
-pub copied_forbidden : (memory : Pages) (address : ℕ) (bytes : List ℕ) (page : Page) → get memory (page_number address) ≡ Some page → may Store page.rights ≡ false → copied_in memory address bytes ≡ Err PageFault
-unfolding copied_in
-copied_forbidden memory address bytes page found refused = ap (answer_by (memory_with memory address bytes)) (usable_forbidden memory Store address page found refused)
-
 pub copied_done : (memory : Pages) (address : ℕ) (bytes : List ℕ) (page : Page) → get memory (page_number address) ≡ Some page → may Store page.rights ≡ true → copied_in memory address bytes ≡ Ok (memory_with memory address bytes page)
 unfolding copied_in
 copied_done memory address bytes page found allowed = ap (answer_by (memory_with memory address bytes)) (usable_found memory Store address page found allowed)
-
-pub usable_by_place : (entries : List (ℕ × Page)) (access : Access) (address : ℕ) → usable (from_entries {R = nat_cmp} entries) access address ≡ with_right access (option_and_then (λ k. value_at k entries) (place_of (page_number address) entries))
-unfolding usable
-usable_by_place entries access address = ap (with_right access) (value_by_place entries (page_number address))
 
 -- what an access by a page's place is
 found_at : (entries : List (ℕ × Page)) (number place : ℕ) (page : Page) → place_of number entries ≡ Some place → value_at place entries ≡ Some page → get (from_entries {R = nat_cmp} entries) number ≡ Some page

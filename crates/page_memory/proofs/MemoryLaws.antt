@@ -32,11 +32,6 @@ pub replaced_of : (memory : Memory) (update : ℕ → ℕ) (address old : ℕ) (
 unfolding replaced
 replaced_of memory update address old pages is = ap (answer_by (exchanged memory address)) is
 
-pub replaced_fault : (memory : Memory) (update : ℕ → ℕ) (address : ℕ) (fault : MemoryFault)
-    → plain.replaced memory.pages update address ≡ Err fault → replaced memory update address ≡ Err fault
-unfolding replaced
-replaced_fault memory update address fault is = ap (answer_by (exchanged memory address)) is
-
 -- ---- copies
 
 pub copied_of : (memory : Memory) (address : ℕ) (bytes : List ℕ) (pages : Pages)

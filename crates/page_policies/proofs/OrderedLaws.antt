@@ -24,14 +24,6 @@ front_keys c d p is all few = ap (λ (m : LruCache Key (Unit {0})). keys_of m.en
       ∙ ap (λ (l : List Key). p ∷ l) (sym (absent p (keys_of c.entries) (holds_found p c.entries ∙ h)))
 ] refl
 
-keys_get : (n : ℕ) (es : List (Key × Unit {0})) → option_map (λ (e : Key × Unit {0}). e.0) (slice_get es n) ≡ slice_get (keys_of es) n
-keys_get n [] = refl
-keys_get zero (e ∷ es) = refl
-keys_get (suc n) (e ∷ es) = keys_get n es
-
-pub last_key : (es : List (Key × Unit {0})) → option_map (λ (e : Key × Unit {0}). e.0) (slice_get es (length es - 1)) ≡ last_of (keys_of es)
-last_key es = keys_get (length es - 1) es ∙ ap (λ (n : ℕ). slice_get (keys_of es) (n - 1)) (sym (length-keys_of es))
-
 pub others_keys : (es : List (Key × Unit {0})) → keys_of (take (length es - 1) es) ≡ but_last (keys_of es)
 others_keys es = keys_taken (length es - 1) es ∙ ap (λ (n : ℕ). take (n - 1) (keys_of es)) (sym (length-keys_of es))
 

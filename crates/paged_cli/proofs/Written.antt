@@ -11,9 +11,6 @@ pub record Tells (first new : Option (List ℕ)) (all : List Status) (number : �
   pub appended : Appends first new written
   pub whole : written ++ statuses_text number rest ≡ statuses_text 0 all
 
-pub tells_none : (out : Option (List ℕ)) (all : List Status) → Tells out out all 0 all
-tells_none out all = record { written = []; appended = Appends-nil out; whole = refl }
-
 pub tells_more : (first old new : Option (List ℕ)) (all : List Status) (number : ℕ) (rest : List Status) (status : Status) (others : List Status)
     → Tells first old all number rest → rest ≡ status ∷ others → Appends old new (status_text number status) → Tells first new all (number + 1) others
 unfolding statuses_text

@@ -62,7 +62,3 @@ module _ (lacks : ℕ → Type 0) (memory : Memory) (address : ℕ) (refusal : B
 -- pages that nothing was written to
 pub bare_itself : {S : Type 0} {number : ℕ} (pages : List (ℕ × PageValue S)) → KeepsBare number pages pages
 bare_itself pages = record { bare = λ page. refl; places = λ page. refl; others = λ page apart. refl }
-
--- pages that stand for the same
-pub alike : (old new : Pages) (memory : Memory) → new ≡ old → ◌≡◌ {A = Memory} (record memory { pages = new }) (record memory { pages = old })
-alike old new memory same = ap (λ p. record memory { pages = p }) same

@@ -48,11 +48,6 @@ pub full_memory : (full : Bool) (flat : Process) → (shown_as full flat).memory
 full_memory false flat = refl
 full_memory true flat = refl
 
--- one that may step was not
-pub not_full : (full : Bool) (hart : ℕ) (flat : Process) → may_step hart (shown_as full flat) ≡ true → full ≡ false
-not_full false hart flat may = refl
-not_full true hart flat may = let none = has_no_ending hart (ended_full flat) may in cc
-
 -- ---- the process of a machine
 
 map_some : {A B : Type 0} (f : A → B) (o : Option A) → is_some (option_map f o) ≡ is_some o

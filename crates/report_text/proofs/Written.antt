@@ -11,9 +11,6 @@ pub record Tells (first new : Option (List ℕ)) (all : List Told) (number : ℕ
   pub appended : Appends first new written
   pub whole : written ++ processes_text number rest ≡ processes_text 0 all
 
-pub tells_none : (out : Option (List ℕ)) (all : List Told) → Tells out out all 0 all
-tells_none out all = record { written = []; appended = Appends-nil out; whole = refl }
-
 pub tells_more : (first old new : Option (List ℕ)) (all : List Told) (number : ℕ) (rest : List Told) (process : Told) (others : List Told)
     → Tells first old all number rest → rest ≡ process ∷ others → Appends old new (line_text number process) → Tells first new all (number + 1) others
 unfolding processes_text

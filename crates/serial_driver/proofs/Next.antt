@@ -40,28 +40,6 @@ steps_next honest core process hart allowed (Steps process' hart' most) spent du
 )
 steps_next honest core process hart allowed (Event event) spent duty are free turn = absurd are
 
--- an event that is settled is all that is owed
-pub settled_first : (owed : Option machine.Event) (spent : Option ℕ) → is_some owed ≡ true → next_owed owed spent ≡ owed
-settled_first None spent h = cc
-settled_first (Some event) spent h = refl
-
--- and so it is where none is spent
-pub none_spent : (owed : Option machine.Event) (spent : Option ℕ) → spent ≡ None → next_owed owed spent ≡ owed
-none_spent owed spent is = ap (next_owed owed) is ∙ alone owed
-  where
-    alone : (owed : Option machine.Event) → next_owed owed None ≡ owed
-    alone None = refl
-    alone (Some event) = refl
-
-spent_pays : (process : ℕ) (owed : Option machine.Event) → is_some owed ≡ false → Pays (next_owed owed (Some process)) (Kill process cause.NoSwap)
-spent_pays process None h = refl
-spent_pays process (Some event) h = cc
-
-pub spent_next : {S : Type 0} (honest : Type 0) (core : CoreValue S) (allowed process : ℕ) (spent : Option ℕ) (duty : Duty) → 0 < allowed → spent ≡ Some process → is_some duty.owed ≡ false
-    → IsNext honest core allowed spent duty (Event (Kill process cause.NoSwap))
-spent_next honest core allowed process spent duty some at free =
-    (omega arith, (omega (arith, some), (refl, subst (λ s. Pays (next_owed duty.owed s) (Kill process cause.NoSwap)) (sym at) (spent_pays process duty.owed free), tt {0})))
-
 module _ {S : Type 0} (honest : Type 0) (core : CoreValue S) where
   -- the hart that has the slice may run, the next one where a turn begins, and one whose turn is over may drop its translations
   pub may_run : (turns : Turns) → turns.stage ≡ Run → IsInTurn honest core (turn_of turns) (Step turns.running.process turns.running.hart)

@@ -6,20 +6,6 @@ use Rattle.serial_driver.specs.Endings.{HasEnded}
 use Rattle.serial_driver.specs.Rounds.{GoesOnFirst, IsNextProcess}
 use Rattle.serial_driver.proofs.Endings.{none_behind}
 
-pub both_true : (a b : Bool) → true ≡ a → true ≡ b → a && b ≡ true
-both_true true true h k = refl
-both_true true false h k = cc
-both_true false b h k = cc
-
-pub first_false : (a b : Bool) → false ≡ a → a && b ≡ false
-first_false false b h = refl
-first_false true b h = cc
-
-pub second_false : (a b : Bool) → false ≡ b → a && b ≡ false
-second_false true false h = refl
-second_false false b h = refl
-second_false true true h = cc
-
 module _ {S : Type 0} (core : CoreValue S) where
   -- the first process above the last one is the next
   pub next_above : (last above count next : ℕ) → above ≡ min (last + 1) 4294967295 → count ≤ 64 → (above ≤ next) × ((next < count) × GoesOnFirst core above next) → IsNextProcess core last next

@@ -49,10 +49,6 @@ pub accessed_of-page_entry : (ppn : ℕ) (rights : Rights) (accessed dirty : Boo
 unfolding accessed_of page_entry leaf_entry
 accessed_of-page_entry ppn rights accessed dirty = refl
 
-pub dirty_mark_of-page_entry : (ppn : ℕ) (rights : Rights) (accessed dirty : Bool) → dirty_mark_of (page_entry ppn rights accessed dirty) ≡ Some dirty
-unfolding dirty_mark_of page_entry leaf_entry
-dirty_mark_of-page_entry ppn rights accessed dirty = refl
-
 pub dirty_of-page_entry : (ppn : ℕ) (rights : Rights) (accessed dirty : Bool) → dirty_of (page_entry ppn rights accessed dirty) ≡ dirty
 unfolding dirty_of page_entry leaf_entry
 dirty_of-page_entry ppn rights accessed dirty = refl

@@ -7,21 +7,6 @@ use Rattle.trace_files.specs.ReferenceAnswers.{BreaksBy, IsOutside, IsOver, Pass
 use Rattle.trace_files.specs.declared.fault.TraceFault.{TraceFault}
 use Rattle.trace_files.specs.declared.fault.TraceFault.TheVariants.{NoMemory, CannotRead, Empty, NoColumn, Line, Text, Record, Compressed}
 
--- a fault from outside says nothing of the trace
-outside_here : (fault : TraceFault) (trace : Trace) → IsOutside fault → BreaksBy fault trace
-outside_here NoMemory trace h = tt
-outside_here (CannotRead name) trace h = tt
-outside_here (Empty name) trace h = h
-outside_here (NoColumn name) trace h = elim h [ ]
-outside_here (Line number text) trace h = elim h [ ]
-outside_here (Text name) trace h = elim h [ ]
-outside_here (Record number size) trace h = elim h [ ]
-outside_here (Compressed name compression) trace h = elim h [ ]
-
-pub from_outside : (fault : TraceFault) (trace : Option Trace) → IsOutside fault → IfSome trace (BreaksBy fault)
-from_outside fault None h = tt
-from_outside fault (Some trace) h = outside_here fault trace h
-
 -- a piece that was taken, of bytes that are told piece by piece
 module _ (cut : List ℕ → List (List ℕ)) (before after : List (List ℕ) → Trace) where
   pub piece_passed : (piece : List ℕ) (front : Trace → Trace) (known rest : Option (List ℕ)) → TakesPiece cut true piece known rest → ((pieces : List (List ℕ)) → before (piece ∷ pieces) ≡ front (after pieces))
@@ -41,11 +26,6 @@ module _ (cut : List ℕ → List (List ℕ)) (before after : List (List ℕ) �
   pieces_over piece None rest taken ends end = tt
   pieces_over piece (Some bytes) None taken ends end = elim taken [ ]
   pieces_over piece (Some bytes) (Some others) taken ends end = (ap before taken.0 ∙ ends, ap after taken.1 ∙ end)
-
--- what is passed with nothing in front is still to come
-pub nothing_passed : (trace : Option Trace) → Passes (λ (rest : Trace). rest) trace trace
-nothing_passed None = tt
-nothing_passed (Some trace) = refl
 
 pub passed_on : (front later : Trace → Trace) (first second third : Option Trace) → Passes front first second → Passes later second third → Passes (λ (rest : Trace). front (later rest)) first third
 passed_on front later None second third p q = tt

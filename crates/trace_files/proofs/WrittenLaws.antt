@@ -27,9 +27,6 @@ pub record Writes (old now : Option (List ℕ)) (at : ℕ) (string : List Key) :
   pub appended : Appends old now bytes
   pub whole : bytes ++ records (length string) at (drop at string) ≡ records (length string) 0 string
 
-pub writes_first : (old : Option (List ℕ)) (string : List Key) → Writes old old 0 string
-writes_first old string = record { bytes = []; appended = Appends-nil old; whole = refl }
-
 pub writes_on : (old now new : Option (List ℕ)) (at time next : ℕ) (string : List Key) (uses : List ℕ) (page d : Key) → uses ≡ next_uses string → at < length string → page ≡ slice_index_or string at d
     → time ≡ short_time at → next ≡ next_time (length string) at (slice_index_or uses at 0) → Appends now new (record_bytes time page next) → Writes old now at string → Writes old new (at + 1) string
 writes_on old now new at time next string uses page d is inside here time_is next_is appended before =
@@ -58,17 +55,3 @@ writes_on old now new at time next string uses page d is inside here time_is nex
     first [] at p ps e h = absurd (omega (arith, h))
     first (q ∷ qs) zero p ps e h = ap (λ (l : List Key). slice_index_or l 0 d) e
     first (q ∷ qs) (suc at) p ps e h = first qs at p ps e (omega (arith, h))
-
-pub writes_end : (old now : Option (List ℕ)) (at : ℕ) (string : List Key) → length string ≤ at → Writes old now at string → Appends old now (records (length string) 0 string)
-writes_end old now at string past before =
-    subst (λ (l : List ℕ). Appends old now l) (sym (append_nil before.bytes) ∙ ap (λ (l : List Key). before.bytes ++ records (length string) at l) (sym (gone string at past)) ∙ before.whole) before.appended
-  where
-    append_nil : (l : List ℕ) → l ++ [] ≡ l
-    append_nil [] = refl
-    append_nil (x ∷ xs) = ap (λ (l : List ℕ). x ∷ l) (append_nil xs)
-
-    gone : (s : List Key) (at : ℕ) → length s ≤ at → drop at s ≡ []
-    gone [] zero h = refl
-    gone [] (suc at) h = refl
-    gone (q ∷ qs) zero h = absurd (omega (arith, h))
-    gone (q ∷ qs) (suc at) h = gone qs at (omega (arith, h))

@@ -25,12 +25,6 @@ carrying_first at next first (y ∷ ys) now some is apart set = rw set (record {
     other : (x y : ℕ) → x ≡ y → (x == at) ≡ false → (y == at) ≡ false
     other x y e h = subst (λ (k : ℕ). (k == at) ≡ false) e h
 
-pub carried_first : (at next first : ℕ) (before now : List ℕ) → 0 < length before → first ≡ slice_index_or before 0 0 → (first == at) ≡ true → now ≡ slice_set before 0 next → (0 ≡ place_depth at before) × (restacked at next before ≡ now) × (length now ≡ length before)
-carried_first at next first [] now some is same set = absurd (omega (arith, some))
-carried_first at next first (y ∷ ys) now some is same set = (
-  sym (ap (λ (b : Bool). let k : ℕ = cond b 0 (suc (place_depth at ys)) in k) (also first y is same)),
-  ap (λ (b : Bool). next ∷ cond b ys (carried_down at y ys)) (also first y is same) ∙ sym set,
-  ap length set,
 )
   where
     also : (x y : ℕ) → x ≡ y → (x == at) ≡ true → (y == at) ≡ true
@@ -47,42 +41,10 @@ set_length here k [] = refl
 set_length zero k (y ∷ ys) = refl
 set_length (suc here) k (y ∷ ys) = ap suc (set_length here k ys)
 
-set_rest : (here k : ℕ) (now : List ℕ) → drop (suc here) (slice_set now here k) ≡ drop (suc here) now
-set_rest here k [] = refl
-set_rest zero k (y ∷ ys) = refl
-set_rest (suc here) k (y ∷ ys) = set_rest here k ys
-
-set_take : (here k : ℕ) (now rest : List ℕ) → here < length now → take here now ++ k ∷ rest ≡ take (suc here) (slice_set now here k) ++ rest
-set_take here k [] rest h = absurd (omega (arith, h))
-set_take zero k (y ∷ ys) rest h = refl
-set_take (suc here) k (y ∷ ys) rest h = ap (λ (l : List ℕ). y ∷ l) (set_take here k ys rest (omega (arith, h)))
-
 set_whole : (here k : ℕ) (now : List ℕ) → here < length now → take here now ++ k ∷ drop (suc here) now ≡ slice_set now here k
 set_whole here k [] h = absurd (omega (arith, h))
 set_whole zero k (y ∷ ys) h = refl
 set_whole (suc here) k (y ∷ ys) h = ap (λ (l : List ℕ). y ∷ l) (set_whole here k ys (omega (arith, h)))
-
--- one place more is passed
-pub carrying_on : (at next here carried further : ℕ) (before now passed : List ℕ) → here < length now → (slice_index_or now here 0 == at) ≡ false → passed ≡ slice_set now here (nearer carried (slice_index_or now here 0)) → further ≡ farther carried (slice_index_or now here 0)
-    → Carrying at next here carried before now → Carrying at next (here + 1) further before passed
-carrying_on at next here carried further before now passed inside apart set is c = rw (set, is) (on (here + 1) (omega arith))
-  where
-    stays : ℕ
-    stays = nearer carried (slice_index_or now here 0)
-
-    on : (h : ℕ) → h ≡ suc here → Carrying at next h (farther carried (slice_index_or now here 0)) before (slice_set now here stays)
-    on h e = rw e (record {
-      size = set_length here stays now ∙ c.size;
-      placed = c.placed ∙ ap (λ (l : List ℕ). take here now ++ carried_down at carried l) (here_is here now inside)
-          ∙ ap (λ (b : Bool). take here now ++ cond b (carried ∷ drop (suc here) now) (stays ∷ carried_down at (farther carried (slice_index_or now here 0)) (drop (suc here) now))) apart
-          ∙ set_take here stays now (carried_down at (farther carried (slice_index_or now here 0)) (drop (suc here) now)) inside
-          ∙ ap (λ (l : List ℕ). take (suc here) (slice_set now here stays) ++ carried_down at (farther carried (slice_index_or now here 0)) l) (sym (set_rest here stays now));
-      deep =
-          let old : place_depth at before ≡ here + place_depth at (drop here now) = c.deep in
-          let one_more : place_depth at (drop here now) ≡ suc (place_depth at (drop (suc here) now)) = ap (place_depth at) (here_is here now inside) ∙ ap (λ (b : Bool). let k : ℕ = cond b 0 (suc (place_depth at (drop (suc here) now))) in k) apart in
-          let same : place_depth at (drop (suc here) (slice_set now here stays)) ≡ place_depth at (drop (suc here) now) = ap (place_depth at) (set_rest here stays now) in
-          omega (arith, old, one_more, same);
-    })
 
 -- the place is found
 pub carrying_found : (at next here carried : ℕ) (before now last : List ℕ) → here < length now → (slice_index_or now here 0 == at) ≡ true → last ≡ slice_set now here carried → Carrying at next here carried before now

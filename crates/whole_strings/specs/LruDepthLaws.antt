@@ -196,31 +196,6 @@ noted_set zero (k ∷ ks) = ap (λ (n : ℕ). n ∷ ks) (one k)
     one k = omega arith
 noted_set (suc d) (k ∷ ks) = ap (λ (l : List ℕ). k ∷ l) (noted_set d ks)
 
-falls : (at left : ℕ) (ks : List ℕ) → at < length ks →
-    take at ks ++ tails left (drop at ks) ≡ take (suc at) (slice_set ks at (left - slice_index_or ks at 0)) ++ tails (left - slice_index_or ks at 0) (drop (suc at) (slice_set ks at (left - slice_index_or ks at 0)))
-falls at left [] h = absurd (omega (arith, h))
-falls zero left (k ∷ ks) h = refl
-falls (suc at) left (k ∷ ks) h = ap (λ (l : List ℕ). k ∷ l) (falls at left ks (omega (arith, h)))
-
-pub falls_on : (at left next : ℕ) (ks all : List ℕ) → at < length ks → next ≡ left - slice_index_or ks at 0 → all ≡ take at ks ++ tails left (drop at ks) →
-    all ≡ take (at + 1) (slice_set ks at next) ++ tails next (drop (at + 1) (slice_set ks at next))
-falls_on at left next ks all h is before =
-    before ∙ falls at left ks h
-    ∙ ap (λ (k : ℕ). take (suc at) (slice_set ks at k) ++ tails k (drop (suc at) (slice_set ks at k))) (sym is)
-    ∙ ap (λ (k : ℕ). take k (slice_set ks at next) ++ tails next (drop k (slice_set ks at next))) (one at)
-  where
-    one : (k : ℕ) → suc k ≡ k + 1
-    one k = omega arith
-
-pub falls_end : (at left : ℕ) (ks all : List ℕ) → length ks ≤ at → all ≡ take at ks ++ tails left (drop at ks) → ks ≡ all
-falls_end at left ks all h before = sym (before ∙ whole at ks h)
-  where
-    whole : (at : ℕ) (ks : List ℕ) → length ks ≤ at → take at ks ++ tails left (drop at ks) ≡ ks
-    whole zero [] h = refl
-    whole (suc at) [] h = refl
-    whole zero (k ∷ ks) h = absurd (omega (arith, h))
-    whole (suc at) (k ∷ ks) h = ap (λ (l : List ℕ). k ∷ l) (whole at ks (omega (arith, h)))
-
 -- one reference, wherever its page is
 
 abbrev pub referred : ℕ → List ℕ → List ℕ

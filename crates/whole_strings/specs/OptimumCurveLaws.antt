@@ -40,9 +40,6 @@ pub record Falling (depth references left : ℕ) (counts curve : List ℕ) : Typ
   pub now : left ≡ references - hits_within depth counts
   pub falls : FallsTo depth references counts curve
 
-pub falling_first : (references : ℕ) (counts curve : List ℕ) → curve ≡ [] → Falling 0 references references counts curve
-falling_first references counts curve is = rw is (record { now = omega arith; falls = record { whole = refl; each = λ m h. absurd (omega (arith, h)) } })
-
 pub falling_on : (depth references left less_left : ℕ) (counts curve longer : List ℕ) → less_left ≡ left - slice_index_or counts depth 0 → longer ≡ curve ++ less_left ∷ [] → Falling depth references left counts curve → Falling (depth + 1) references less_left counts longer
 falling_on depth references left less_left counts curve longer is pushed f =
     let before : left ≡ references - hits_within depth counts = f.now in

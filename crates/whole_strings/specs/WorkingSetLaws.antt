@@ -374,9 +374,6 @@ none_zero zero n = refl
 none_zero (suc m) zero = refl
 none_zero (suc m) (suc n) = let rest = none_zero m n in omega (arith, rest)
 
-all_left : (us : List ℕ) → drop 0 us ≡ us
-all_left us = refl
-
 pub tally_opens : (f : ℕ → List ℕ → ℕ) (n : ℕ) (counts uses : List ℕ) → n ≡ length uses → counts ≡ replicate n 0 → Tallies f 0 counts uses
 tally_opens f n counts uses size is = record {
   size = ap length is ∙ length-replicate n 0 ∙ size;

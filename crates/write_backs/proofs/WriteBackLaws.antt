@@ -77,7 +77,3 @@ reference_more misses_of counted later string i d is_miss old new count one all 
       whole = whole_more count one (dirtied is_miss old (slice_index_or string i d)) (written_from misses_of (before (i + 1) string) new (drop (i + 1) string)) (written_from misses_of (before i string) old (drop i string)) all whole
           (written_more misses_of string i d is_miss old new h missing dirty) is;
     }
-
--- what is written back, by what is missed of each string
-pub written_alike : (f g : List Key → ℕ) (string : List Reference) → ((s : List Key) → f s ≡ g s) → write_backs f string ≡ write_backs g string
-written_alike f g string same = ap (λ (h : List Key → ℕ). write_backs h string) (λ i s. same s i)

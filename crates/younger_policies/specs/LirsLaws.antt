@@ -18,9 +18,3 @@ pruned_more n i s t h lir is =
     ap (pruned (n - (i + 1))) is
     ∙ ap (λ (b : Bool). cond b s (pruned (n - (i + 1)) (without_bottom s))) lir
     ∙ ap (λ (k : ℕ). pruned k s) (sym e)
-
-pub pruned_done : (n i : ℕ) (s : LirsState) → i < n → true ≡ is_bottom_lir (last_of s.stack) s → s ≡ pruned (n - i) s
-pruned_done n i s h lir =
-    let e : n - i ≡ suc (n - (i + 1)) = omega (arith, h) in
-    ap (λ (b : Bool). cond b s (pruned (n - (i + 1)) (without_bottom s))) lir
-    ∙ ap (λ (k : ℕ). pruned k s) (sym e)

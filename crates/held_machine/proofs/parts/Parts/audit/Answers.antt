@@ -6,7 +6,6 @@ use Rattle.machine_sides.specs.Sides.{PagerSideValue}
 use Rattle.machine_sides.proofs.AuditLaws.{CountedSo, counted_none, counted_next, not_sound, sound_all}
 use Rattle.machine_sides.proofs.EverywhereLaws.{everywhere}
 use Rattle.held_machine.specs.Audit.{space_in}
-use Rattle.held_machine.proofs.Audited.{held_sound, sound_held}
 use Rattle.held_machine.proofs.parts.Parts.audit.Goals as goal
 
 pub processes-init : goal.processes-init

@@ -25,26 +25,45 @@ impl<L: Ledger> Model for BareFrame<L> {
 
     ghost view = { λ f. record { number = f.number; bytes = f.bytes.value } };
 
-    ghost invariant = { λ f. (f.share.parts ≡ 1) × (f.number < 4096) };
+    ghost invariant = { λ f. (f.share.parts ≡ 1) × (f.share.amount ≡ 1) × (f.number < 4096) };
 }
 
-impl<L: Ledger> BareFrame<L> {
+/// The bytes of a frame that is free: its pool has its share.
+#[derive(Drop)]
+pub(crate) struct FreeBytes {
+    number: u32,
+    bytes: Box<[u8; 4096]>,
+}
+
+impl Model for FreeBytes {
+    ghost use Rattle.std.specs.Prelude.{◌<◌};
+    ghost use Rattle.frame_pool.specs.FrameValue.{FrameValue};
+
+    ghost Value = { FrameValue };
+
+    ghost view = { λ f. record { number = f.number; bytes = f.bytes.value } };
+
+    ghost invariant = { λ f. f.number < 4096 };
+}
+
+impl FreeBytes {
     ghost use Rattle.std.specs.Prelude.{IfOk};
     ghost use Rattle.frame_pool.specs.FrameValue.{zero_frame};
-    ghost use Rattle.frame_pool.specs.BareLending.{LendsBareBytes};
 
-    /// A frame of zero bytes, which stands for the share.
-    pub(crate) fn zeroed(alloc: Global, number: u32, share: Share<L>) -> Result<Self, AllocError>
-        requires share { share.parts ≡ 1 }
+    /// Zero bytes.
+    pub(crate) fn zeroed(alloc: Global, number: u32) -> Result<Self, AllocError>
         requires number { number < 4096 }
         ensures { IfOk result (λ frame. frame ≡ zero_frame number) }
     {
-        Ok(BareFrame {
+        Ok(FreeBytes {
             number,
             bytes: Box::new(alloc, [0; 4096])?,
-            share,
         })
     }
+}
+
+impl<L: Ledger> BareFrame<L> {
+    ghost use Rattle.frame_pool.specs.BareLending.{LendsBareBytes};
 
     /// The number by which page tables name the frame. It is below `MOST_FRAMES`.
     #[inline]
@@ -73,17 +92,34 @@ impl<L: Ledger> BareFrame<L> {
         &mut self.bytes
     }
 
-    /// Gives up the frame, and merges its share into one.
-    pub(crate) fn give_up(self, all: &mut Share<L>)
+    /// The frame of these bytes, which stands for the share.
+    pub(crate) fn of(free: FreeBytes, share: Share<L>) -> Self
+        requires share { share.parts ≡ 1 }
+        requires amount { share.amount ≡ 1 }
+        ensures { result ≡ free }
+    {
+        let FreeBytes { number, bytes } = free;
+        BareFrame {
+            number,
+            bytes,
+            share,
+        }
+    }
+
+    /// The frame's bytes, whose share is merged into one.
+    pub(crate) fn into_free(self, all: &mut Share<L>) -> FreeBytes
+        ensures same { result ≡ self }
         ensures parts { all.new.parts ≡ all.old.parts + 1 }
+        ensures amount { all.new.amount ≡ all.old.amount + 1 }
         ensures within { all.new.parts ≤ L.parts }
     {
         let BareFrame {
-            number: _,
-            bytes: _,
+            number,
+            bytes,
             share,
         } = self;
         all.merge(share);
+        FreeBytes { number, bytes }
     }
 }
 

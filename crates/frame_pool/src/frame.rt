@@ -3,7 +3,7 @@
 ghost use Rattle.std.specs.Prelude.{◌≡◌, ◌+◌, ◌<◌, ◌≤◌, length, vec_len};
 ghost use Rattle.std.specs.Borrow.{sem};
 
-use crate::bare::BareFrame;
+use crate::bare::{BareFrame, FreeBytes};
 use std::alloc::{AllocError, Global};
 use std::marker::Model;
 use std::mem;
@@ -27,20 +27,64 @@ impl<L: Ledger> Model for Frame<L> {
     ghost view = { λ f. f.bare };
 }
 
-impl<L: Ledger> Frame<L> {
+/// What a frame is while it is free: its bytes, and the room for a copy. Its pool has its share.
+#[derive(Drop)]
+pub(crate) struct FreeFrame {
+    free: FreeBytes,
+    room: Box<[u8; 4096]>,
+}
+
+impl Model for FreeFrame {
+    ghost use Rattle.frame_pool.specs.FrameValue.{FrameValue};
+
+    ghost Value = { FrameValue };
+
+    ghost view = { λ f. f.free };
+}
+
+impl FreeFrame {
     ghost use Rattle.std.specs.Prelude.{IfOk};
     ghost use Rattle.frame_pool.specs.FrameValue.{zero_frame};
-    ghost use Rattle.frame_pool.specs.Lending.{LendsBytes};
 
-    /// A frame of zero bytes, which stands for the share.
-    pub(crate) fn zeroed(alloc: Global, number: u32, share: Share<L>) -> Result<Self, AllocError>
-        requires share { share.parts ≡ 1 }
+    /// Zero bytes.
+    pub(crate) fn zeroed(alloc: Global, number: u32) -> Result<Self, AllocError>
         requires number { number < 4096 }
         ensures { IfOk result (λ frame. frame ≡ zero_frame number) }
     {
-        let bare = BareFrame::zeroed(alloc, number, share)?;
+        let free = FreeBytes::zeroed(alloc, number)?;
         let room = Box::new(alloc, [0; 4096])?;
-        Ok(Frame { bare, room })
+        Ok(FreeFrame { free, room })
+    }
+}
+
+impl<L: Ledger> Frame<L> {
+    ghost use Rattle.frame_pool.specs.Lending.{LendsBytes};
+
+    /// The frame of these bytes, which stands for the share.
+    pub(crate) fn of(free: FreeFrame, share: Share<L>) -> Self
+        requires share { share.parts ≡ 1 }
+        requires amount { share.amount ≡ 1 }
+        ensures { result ≡ free }
+    {
+        let FreeFrame { free, room } = free;
+        Frame {
+            bare: BareFrame::of(free, share),
+            room,
+        }
+    }
+
+    /// The frame's bytes and its room, whose share is merged into one.
+    pub(crate) fn into_free(self, all: &mut Share<L>) -> FreeFrame
+        ensures same { result ≡ self }
+        ensures parts { all.new.parts ≡ all.old.parts + 1 }
+        ensures amount { all.new.amount ≡ all.old.amount + 1 }
+        ensures within { all.new.parts ≤ L.parts }
+    {
+        let Frame { bare, room } = self;
+        FreeFrame {
+            free: bare.into_free(all),
+            room,
+        }
     }
 
     /// The frame, of which only a copy asks for the room.
@@ -115,8 +159,7 @@ impl<L: Ledger> Frame<L> {
         ensures parts { all.new.parts ≡ all.old.parts + 1 }
         ensures within { all.new.parts ≤ L.parts }
     {
-        let Frame { bare, room: _ } = self;
-        bare.give_up(all);
+        let _free = self.into_free(all);
     }
 }
 

@@ -1,12 +1,12 @@
 //! The pool of free frames, of 4 to 4096 in all, each with a share of the ledger that counts them.
 
-ghost use Rattle.std.specs.Prelude.{◌≡◌, ◌<◌, ◌≤◌, ◌+◌, ◌↔◌, ◌⊎◌, [], ◌∷◌, ◌++◌, length, IfOk, OnOk, OnErr, IfErr, IsErr, IsErrOf, IsTrue, IsNone, IfNone, IfSome};
+ghost use Rattle.std.specs.Prelude.{ℕ, ◌≡◌, ◌<◌, ◌≤◌, ◌+◌, ◌↔◌, ◌⊎◌, [], ◌∷◌, ◌++◌, length, IfOk, OnOk, OnErr, IfErr, IsErr, IsErrOf, IsTrue, IsNone, IfNone, IfSome};
 
-use crate::frame::Frame;
+use crate::frame::{Frame, FreeFrame};
 use machine_limits::{FEWEST_FRAMES, MOST_FRAMES};
 use std::alloc::{AllocError, AllocFailed, Global};
 use std::marker::Model;
-use std::sync::ledger::{Blank, Ledger, Share};
+use std::sync::ledger::{Blank, Ledger, Share, Total};
 use thiserror::Error;
 
 /// Why no pool was made, in the order in which the reasons are tested.
@@ -31,20 +31,21 @@ impl From<AllocError> for PoolError {
 /// The frames that are free, of the fixed number that the pool was made of.
 #[derive(Drop)]
 pub struct FramePool<L: Ledger> {
-    free: Vec<Frame<L>>,
+    free: Vec<FreeFrame>,
     size: u32,
     rest: Share<L>,
+    total: Total<L>,
 }
 
 impl<L: Ledger> Model for FramePool<L> {
-    ghost use Rattle.std.specs.Prelude.{◌≡◌, ◌≤◌, vec_len, vec_capacity};
+    ghost use Rattle.std.specs.Prelude.{◌≡◌, ◌≤◌, ◌+◌, vec_len, vec_capacity};
     ghost use Rattle.frame_pool.specs.FramePoolValue.{FramePoolValue};
 
     ghost Value = { FramePoolValue };
 
     ghost view = { λ p. record { free = p.free.items; size = p.size } };
 
-    ghost invariant = { λ p. (vec_len p.free ≤ p.size) × (p.size ≤ vec_capacity p.free) × (p.rest.parts ≡ 1) };
+    ghost invariant = { λ p. (p.rest.parts ≡ vec_len p.free + 1) × (p.rest.amount ≡ vec_len p.free) × (p.total.amount ≡ p.size) × (vec_len p.free ≤ p.size) × (p.size ≤ vec_capacity p.free) };
 }
 
 impl<L: Ledger> FramePool<L> {
@@ -62,12 +63,18 @@ impl<L: Ledger> FramePool<L> {
         if size < FEWEST_FRAMES || size > MOST_FRAMES {
             return Err(PoolError::BadSize);
         }
-        let (_book, mut rest) = blank.open::<L>();
+        let (mut book, mut rest) = blank.open::<L>();
+        book.add(&mut rest, u64::from(size));
         let mut free = Vec::with_capacity(alloc, size as usize)?;
         for number in 0..size {
-            free.push_reserved(Frame::zeroed(alloc, number, rest.split_off(1, 0))?);
+            free.push_reserved(FreeFrame::zeroed(alloc, number)?);
         }
-        Ok(FramePool { free, size, rest })
+        Ok(FramePool {
+            free,
+            size,
+            rest,
+            total: book.close(),
+        })
     }
 
     /// How many frames are free.
@@ -100,37 +107,33 @@ impl<L: Ledger> FramePool<L> {
         ensures none { IfNone result (self.new.free ≡ self.old.free) }
         ensures size { self.new.size ≡ self.old.size }
     {
-        let frame = self.free.pop()?;
+        let free = self.free.pop()?;
+        let frame = Frame::of(free, self.rest.split_off(1, 1));
         // For the proof only: a read shows that what is read is lawful.
         let _bytes = frame.bytes();
         Some(frame)
     }
 
-    /// Gives a frame back. Where all are there it is another pool's, and is handed back. Takes constant time.
-    pub fn give(&mut self, frame: Frame<L>) -> Result<(), Frame<L>>
-        ensures full { IsErr result ↔ (length self.old.free ≡ self.old.size) }
-        ensures ok { OnOk result (self.new.free ≡ self.old.free ++ frame ∷ []) }
-        ensures handed_back { IfErr result (λ back. back ≡ frame) }
-        ensures err { OnErr result (self.new.free ≡ self.old.free) }
-        ensures size { self.new.size ≡ self.old.size }
+    /// Gives a frame back. Takes constant time.
+    pub fn give(&mut self, frame: Frame<L>)
+        ensures { self.new ≡ record self.old { free = self.old.free ++ frame ∷ [] } }
     {
-        if self.free.len() == self.size as usize {
-            return Err(frame);
-        }
-        self.free.push_reserved(frame);
-        Ok(())
+        let free = frame.into_free(&mut self.rest);
+        // For the proof only: a share never has more than the total, so one more fits.
+        self.total.audit(&mut self.rest);
+        self.free.push_reserved(free);
     }
 
-    /// Gives up the pool: its free frames, and a share with the ledger's one part that is no frame's, to `gather` with.
-    pub fn into_frames(self) -> (Vec<Frame<L>>, Share<L>)
-        ensures frames { result.0.items ≡ self.free }
-        ensures share { result.1.parts ≡ 1 }
+    /// Gives up the pool and the frames that are free. Its share has one part for each, and the pool's own.
+    pub fn give_up(self) -> Share<L>
+        ensures { result.parts ≡ length self.free + 1 }
     {
         let FramePool {
-            free,
+            free: _,
             size: _,
             rest,
+            total: _,
         } = self;
-        (free, rest)
+        rest
     }
 }

@@ -172,17 +172,11 @@ impl<L: Ledger, C: Clock> Pager<L, C> {
         self.list.purge(process)
     }
 
-    /// Gives a frame back. Where all are there it is another pager's, and is handed back.
-    pub fn free(&mut self, frame: Frame<L>) -> Result<(), Frame<L>>
-        ensures full { IsErr result ↔ (length self.old.free ≡ self.old.size) }
-        ensures ok { OnOk result (self.new ≡ record self.old {
-          free = self.old.free ++
-              frame ∷ [];
-        }) }
-        ensures handed_back { IfErr result (λ back. back ≡ frame) }
-        ensures err { OnErr result (self.new ≡ self.old) }
+    /// Gives a frame back.
+    pub fn free(&mut self, frame: Frame<L>)
+        ensures { self.new ≡ record self.old { free = self.old.free ++ frame ∷ [] } }
     {
-        self.frames.give(frame)
+        self.frames.give(frame);
     }
 
     /// What the list knows of a page.
@@ -228,17 +222,16 @@ impl<L: Ledger, C: Clock> Pager<L, C> {
         self.frames.size()
     }
 
-    /// Gives up the pager: its free frames, and a share with the ledger's one part that is no frame's.
-    pub fn into_frames(self) -> (Vec<Frame<L>>, Share<L>)
-        ensures frames { result.0.items ≡ self.free }
-        ensures share { result.1.parts ≡ 1 }
+    /// Gives up the pager and its free frames, and tells of how many parts its share is: one for each, and its own.
+    pub fn give_up(self) -> Share<L>
+        ensures { result.parts ≡ length self.free + 1 }
     {
         let Pager {
             frames,
             list: _,
             tallies: _,
         } = self;
-        frames.into_frames()
+        frames.give_up()
     }
 }
 

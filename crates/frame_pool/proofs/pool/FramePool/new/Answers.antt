@@ -8,6 +8,4 @@ loop-number-preserved g c =
       frames = map-zero_frame_more _ _ _ _ c.loop-number.invariant.frames c.in_ok-zeroed.ensures c.push_reserved.ensures.items;
       len = omega arith;
       room = omega arith;
-      parts = omega arith;
-      amount = omega arith;
     }

@@ -1,4 +1,4 @@
-use Rattle.std.proofs.Common.{◌≡◌, ◌+◌, vec_len, vec_capacity, map}
+use Rattle.std.proofs.Common.{◌≡◌, vec_len, vec_capacity, map}
 use Rattle.std.specs.List.{range_with_len}
 use Rattle.frame_pool.specs.FrameValue.{zero_frame}
 use Rattle.frame_pool.proofs.pool.FramePool.new.Given as goal
@@ -9,6 +9,4 @@ invariant-loop-number g l =
       frames : l.free.items ≡ map zero_frame (range_with_len 0 l.number);
       len : vec_len l.free ≡ l.number;
       room : vec_capacity l.free ≡ l.size;
-      parts : l.rest.parts + l.number ≡ l.size + 1;
-      amount : l.rest.amount ≡ 0;
     }

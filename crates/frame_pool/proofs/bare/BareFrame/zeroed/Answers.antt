@@ -1,7 +1,0 @@
-use Rattle.std.proofs.Common.{ap}
-use Rattle.frame_pool.specs.FrameValue.{FrameValue, zero_bytes}
-use Rattle.frame_pool.proofs.bare.BareFrame.zeroed.Goals as goal
-
-pub returns : goal.returns
-unfolding zero_bytes
-returns g c = ap (λ bytes. let f : FrameValue = record { number = c.args.number; bytes = bytes } in f) c.in_ok-new.ensures.ok

@@ -114,8 +114,23 @@ impl<L: Ledger> FramePool<L> {
         Some(frame)
     }
 
-    /// Gives a frame back. Takes constant time.
-    pub fn give(&mut self, frame: Frame<L>)
+    /// Gives a frame back. Where all are there it is another pool's, and is handed back. Takes constant time.
+    pub fn give(&mut self, frame: Frame<L>) -> Result<(), Frame<L>>
+        ensures full { IsErr result ↔ (length self.old.free ≡ self.old.size) }
+        ensures ok { OnOk result (self.new.free ≡ self.old.free ++ frame ∷ []) }
+        ensures handed_back { IfErr result (λ back. back ≡ frame) }
+        ensures err { OnErr result (self.new.free ≡ self.old.free) }
+        ensures size { self.new.size ≡ self.old.size }
+    {
+        if self.free.len() == self.size as usize {
+            return Err(frame);
+        }
+        self.put_back(frame);
+        Ok(())
+    }
+
+    /// Gives a frame back, which always has its place: its share shows that it is one of this pool's. Takes constant time.
+    pub fn put_back(&mut self, frame: Frame<L>)
         ensures { self.new ≡ record self.old { free = self.old.free ++ frame ∷ [] } }
     {
         let free = frame.into_free(&mut self.rest);

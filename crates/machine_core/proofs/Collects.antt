@@ -16,7 +16,7 @@ use Rattle.paged_memory.specs.Whole.{stage_in, frame_in}
 use Rattle.space_core.specs.StandsFor.{SpaceValue}
 use Rattle.swap_slots.specs.PoolValue.{PoolValue}
 use Rattle.machine_sides.specs.declared.collecting.Looked.{Looked}
-use Rattle.machine_sides.specs.declared.collecting.Looked.TheVariants.{NotLeaving, NotYet, Freed, Dirty, NoSlot, NotRestored, HandedBack}
+use Rattle.machine_sides.specs.declared.collecting.Looked.TheVariants.{NotLeaving, NotYet, Freed, Dirty, NoSlot, NotRestored}
 use Rattle.machine_core.specs.declared.error.EventRefusal.TheVariants as refusal
 use Rattle.machine_core.specs.declared.event.Reply.{Reply}
 use Rattle.machine_sides.specs.Collecting.{is_leaving_at, Looks, IsDropped, IsCopied, LacksAndReturns, LacksAndLeaves}
@@ -31,7 +31,7 @@ use Rattle.machine_sides.proofs.StageLaws.{stage_passes}
 use Rattle.machine_sides.proofs.TogetherLaws.{LeavesRest}
 use Rattle.machine_sides.specs.Together.{Together, key_of}
 use Rattle.machine_core.proofs.Cores.{lent_back}
-use Rattle.machine_core.proofs.Counted.{HoldsFrame, frame_missing, job_fits, takes_back}
+use Rattle.machine_core.proofs.Counted.{HoldsFrame, job_fits, takes_back}
 use Rattle.machine_core.proofs.Kept.{Moves, moved_machine, out_stays, copies_stay, copies_even}
 use Rattle.machine_core.proofs.TotalLaws.{get_set_same}
 
@@ -106,8 +106,8 @@ module _ {S : Type 0} where
       dropped_moves dropped jobs copies =
           let together = dropped_together vpn core.pager core'.pager q q' core.slots core'.slots dropped in
           quiet_moves together
-          (subst (λ (s : PagerSideValue). Lawful s.pager.list) (sym dropped.frees.is) machine.lawful)
-          (subst (λ (s : PagerSideValue). s.pager.list.frames ≡ s.pager.size) (sym dropped.frees.is) machine.frames)
+          (subst (λ (s : PagerSideValue). Lawful s.pager.list) (sym dropped.frees) machine.lawful)
+          (subst (λ (s : PagerSideValue). s.pager.list.frames ≡ s.pager.size) (sym dropped.frees) machine.frames)
           (dropped_rest vpn dropped.frame q q' dropped.drops) dropped.slots_stay jobs copies
 
       returned_moves : LacksAndReturns vpn core.pager core'.pager q q' core.slots core'.slots → core'.jobs ≡ core.jobs → core'.copies ≡ core.copies → Moves core core' p q q'
@@ -158,24 +158,22 @@ module _ {S : Type 0} where
           }
 
       -- the machine stays one, whatever its own look comes to
-      pub looked_moves : {L : Type 0} (looked : Looked L S) → Looks vpn core.pager core'.pager q q' core.slots core'.slots looked → IsOwn looked → core'.jobs ≡ jobs_after looked core.jobs → core'.copies ≡ core.copies → Moves core core' p q q'
+      pub looked_moves : (looked : Looked S) → Looks vpn core.pager core'.pager q q' core.slots core'.slots looked → IsOwn looked → core'.jobs ≡ jobs_after looked core.jobs → core'.copies ≡ core.copies → Moves core core' p q q'
       looked_moves NotLeaving how own jobs copies = absurd own
       looked_moves NotYet how own jobs copies = stays_moves how.stays.pager_stays how.stays.process_stays how.stays.slots_stay jobs copies
       looked_moves Freed how own jobs copies = dropped_moves how jobs copies
       looked_moves (Dirty job) how own jobs copies = copied_moves job how jobs copies
       looked_moves NoSlot how own jobs copies = returned_moves how jobs copies
       looked_moves (NotRestored reason) how own jobs copies = stays_moves how.leaves.unlisted.stays how.leaves.stays how.slots_stay jobs copies
-      looked_moves (HandedBack frame) how own jobs copies = absurd own
 
       -- and what it comes to
-      pub looked_to : {L : Type 0} (looked : Looked L S) (answer : Reply) → Looks vpn core.pager core'.pager q q' core.slots core'.slots looked → IsOwn looked → core'.jobs ≡ jobs_after looked core.jobs → answer ≡ looked_reply looked → CollectsTo vpn core core' q q' answer
+      pub looked_to : (looked : Looked S) (answer : Reply) → Looks vpn core.pager core'.pager q q' core.slots core'.slots looked → IsOwn looked → core'.jobs ≡ jobs_after looked core.jobs → answer ≡ looked_reply looked → CollectsTo vpn core core' q q' answer
       looked_to NotLeaving answer how own jobs is = absurd own
       looked_to NotYet answer how own jobs is = not_yet how jobs is
       looked_to Freed answer how own jobs is = freed how jobs is
       looked_to (Dirty job) answer how own jobs is = dirty job how jobs is
       looked_to NoSlot answer how own jobs is = no_slot how jobs is
       looked_to (NotRestored reason) answer how own jobs is = no_memory (subst (LacksAndLeaves vpn core.pager core'.pager q q' core.slots core'.slots) own how) jobs is
-      looked_to (HandedBack frame) answer how own jobs is = absurd own
 
   -- ---- what a look comes to in the machine
 
@@ -183,14 +181,13 @@ module _ {S : Type 0} where
     holds : HoldsFrame q vpn
     holds = leaving_holds q vpn leaving
 
-    pub looked_own : {L : Type 0} (pager' : PagerSideValue) (slots' : PoolValue S) (looked : Looked L S) → Looks vpn core.pager pager' q q' core.slots slots' looked → IsOwn looked
+    pub looked_own : (pager' : PagerSideValue) (slots' : PoolValue S) (looked : Looked S) → Looks vpn core.pager pager' q q' core.slots slots' looked → IsOwn looked
     looked_own pager' slots' NotLeaving how = let no = how.0 in let yes = leaving in cc
     looked_own pager' slots' NotYet how = tt
     looked_own pager' slots' Freed how = tt
     looked_own pager' slots' (Dirty job) how = tt
     looked_own pager' slots' NoSlot how = tt
     looked_own pager' slots' (NotRestored reason) how = only_memory reason (λ apart. takes_back core p q vpn machine found holds reason (how.leaves.unlisted.why apart))
-    looked_own pager' slots' (HandedBack frame) how = let missing = frame_missing core p q vpn machine found holds in let full = how.full in absurd (omega (arith, missing, full))
 
     -- a save of the page has room
     pub looked_room : length core.jobs < core.pager.pager.size
@@ -205,7 +202,7 @@ module _ {S : Type 0} where
       by_answer true h = refl
       by_answer false h = cc
 
-  module _ (held : S → List ℕ) (honest : Type 0) (L : Type 0) (pager pager' : PagerSideValue) (slots slots' : PoolValue S) (jobs copies : List (JobValue S)) (items lent new : List (SpaceValue S)) (n : ℕ) (key : Key) (looked : Looked L S)
+  module _ (held : S → List ℕ) (honest : Type 0) (pager pager' : PagerSideValue) (slots slots' : PoolValue S) (jobs copies : List (JobValue S)) (items lent new : List (SpaceValue S)) (n : ℕ) (key : Key) (looked : Looked S)
       (machine : IsMachine (record { pager = pager; slots = slots; processes = items; jobs = jobs; copies = copies })) (allowed : collect_refusal key items ≡ None)
       (long : n ≡ length items) (same : lent ≡ items) (looks : LooksAt held honest key.process key.vpn pager pager' slots slots' lent new looked) where
     abbrev core : CoreValue S

@@ -83,10 +83,6 @@ module _ {S : Type 0} where
     one_resident_fewer : total (λ (r : SpaceValue S). residents_in r (λ _. true)) core.processes + 1 ≤ total (λ (r : SpaceValue S). frames_in r (λ _. true)) core.processes
     one_resident_fewer = one_fewer_total _ _ residents_framed core.processes p q found (one_resident_fewer_in q vpn holds)
 
-    -- a frame is missing among the free ones
-    pub frame_missing : length core.pager.pager.free < core.pager.pager.size
-    frame_missing = omega (arith, frames_in_pages, one_resident_fewer)
-
     -- a save of the page has room
     pub job_fits : is_saving_stage (stage_in q.memory vpn) ≡ false → length core.jobs < core.pager.pager.size
     job_fits unsaved =

@@ -25,7 +25,6 @@ use Rattle.machine_core.specs.MachineRun.{of_process, RefusesEvent}
 use Rattle.machine_core.specs.PagingIn.{admit_reason, ComesIn, IsTakenBack, GoesBack, PagesIn, PagesInAt, PagesInOnce, page_in_reason, page_in_refusal}
 use Rattle.machine_sides.specs.Sides.{PagerSideValue}
 use Rattle.machine_sides.proofs.StageLaws.{stage_below}
-use Rattle.machine_core.proofs.Counted.{all_frames, all_numbers}
 use Rattle.machine_core.proofs.Cores.{lent_back}
 use Rattle.machine_core.proofs.PageInReasons.{unbarred, first_reason, bars_are, reason_is}
 use Rattle.machine_core.proofs.PageIns.{come_machine, come_size, go_machine, back_size}
@@ -44,12 +43,6 @@ not_listed false true false h = cc
 not_listed false false none h = cc
 
 module _ {S : Type 0} where
-  -- no more frames are free than there are
-  pub frames_fit : (core : CoreValue S) → IsMachine core → length core.pager.pager.free ≤ core.pager.pager.size
-  frames_fit core machine =
-      let framed = machine.framed (λ _. true) in
-      omega (arith, framed, all_frames core.pager.pager.free, all_numbers core.pager.pager.size)
-
   -- a page that is absent still is not resident
   away_still : (old new : SpaceValue S) (v : ℕ) → v < 2 ^ 20 → is_absent_stage (stage_in old.memory v) ≡ true → stage_in new.memory v ≡ stage_in old.memory v → is_resident_at new v ≡ false
   away_still old new v small absent same = ap is_resident_stage (stage_below new v small ∙ same) ∙ by_test (is_resident_stage (stage_in old.memory v)) refl

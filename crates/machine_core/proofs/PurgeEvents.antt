@@ -29,7 +29,6 @@ use Rattle.machine_sides.specs.Purging.{purge_bars, Purges, PurgesAll, StopsPurg
 use Rattle.machine_sides.specs.Sides.{PagerSideValue}
 use Rattle.machine_sides.specs.Together.{residents_in, frames_in, key_of}
 use Rattle.machine_core.proofs.Cores.{lent_back}
-use Rattle.machine_core.proofs.Counted.{all_frames, all_numbers}
 use Rattle.machine_core.proofs.Kept.{moved_machine, out_stays, copies_stay, copies_even}
 use Rattle.machine_core.proofs.TotalLaws.{total_at}
 
@@ -83,23 +82,11 @@ module _ {S : Type 0} where
 
   -- ---- everything has its place
 
-  no_frame_back : (core : CoreValue S) (pager' : PagerSideValue) (pool' : PoolValue S) (p : ℕ) (q q' : SpaceValue S) (frame : FrameValue) (slot : Option S) → IsMachine core → slice_get core.processes p ≡ Some q
-      → StopsPurging (Some frame) slot core.pager pager' q q' core.slots pool' → ⊥
-  no_frame_back core pager' pool' p q q' frame slot machine found stops =
+  no_slot_back : (core : CoreValue S) (pager' : PagerSideValue) (pool' : PoolValue S) (p : ℕ) (q q' : SpaceValue S) (slot : S) → IsMachine core → slice_get core.processes p ≡ Some q
+      → StopsPurging slot core.pager pager' q q' core.slots pool' → ⊥
+  no_slot_back core pager' pool' p q q' slot machine found stops =
       let gave = stops.stops.gave in
-      let full : length pager'.pager.free ≡ pager'.pager.size = stops.stops.frame_full refl in
-      let free : length pager'.pager.free ≡ length (core.pager.pager.free ++ gave.frames) = ap (λ (s : PagerState). length s.free) gave.pager_is in
-      let size : pager'.pager.size ≡ core.pager.pager.size = ap (λ (s : PagerState). s.size) gave.pager_is in
-      let framed = gave.framed (λ _. true) in
-      let all = machine.framed (λ _. true) in
-      let part = total_at (λ (r : SpaceValue S). frames_in r (λ _. true)) core.processes p q found in
-      omega (arith, full, free, size, framed, all, part, length-append core.pager.pager.free gave.frames, all_frames gave.frames, all_frames core.pager.pager.free, all_numbers core.pager.pager.size)
-
-  no_slot_back : (core : CoreValue S) (pager' : PagerSideValue) (pool' : PoolValue S) (p : ℕ) (q q' : SpaceValue S) (frame : Option FrameValue) (slot : S) → IsMachine core → slice_get core.processes p ≡ Some q
-      → StopsPurging frame (Some slot) core.pager pager' q q' core.slots pool' → ⊥
-  no_slot_back core pager' pool' p q q' frame slot machine found stops =
-      let gave = stops.stops.gave in
-      let full : length pool'.free ≡ pool'.size = stops.stops.slot_full refl in
+      let full : length pool'.free ≡ pool'.size = stops.stops.full in
       let free : length pool'.free ≡ length (core.slots.free ++ gave.slots) = ap (λ (s : PoolValue S). length s.free) gave.pool_is in
       let size : pool'.size ≡ core.slots.size = ap (λ (s : PoolValue S). s.size) gave.pool_is in
       let slotted = gave.slotted in
@@ -107,17 +94,11 @@ module _ {S : Type 0} where
       let part = total_at (λ (r : SpaceValue S). slots_within r.memory) core.processes p q found in
       omega (arith, full, free, size, slotted, all, part, length-append core.slots.free gave.slots)
 
-  nothing_back : (core : CoreValue S) (pager' : PagerSideValue) (pool' : PoolValue S) (p : ℕ) (q q' : SpaceValue S) (frame : Option FrameValue) (slot : Option S) → IsMachine core → slice_get core.processes p ≡ Some q
-      → StopsPurging frame slot core.pager pager' q q' core.slots pool' → ⊥
-  nothing_back core pager' pool' p q q' (Some frame) slot machine found stops = no_frame_back core pager' pool' p q q' frame slot machine found stops
-  nothing_back core pager' pool' p q q' None (Some slot) machine found stops = no_slot_back core pager' pool' p q q' None slot machine found stops
-  nothing_back core pager' pool' p q q' None None machine found stops = let some = stops.stops.some in cc
-
-  purges_all : {L : Type 0} (core : CoreValue S) (pager' : PagerSideValue) (pool' : PoolValue S) (p : ℕ) (q q' : SpaceValue S) (result : Purging L S) → IsMachine core → slice_get core.processes p ≡ Some q
+  purges_all : (core : CoreValue S) (pager' : PagerSideValue) (pool' : PoolValue S) (p : ℕ) (q q' : SpaceValue S) (result : Purging S) → IsMachine core → slice_get core.processes p ≡ Some q
       → purge_bars q ≡ None → Purges core.pager pager' q q' core.slots pool' result → IsDone result × PurgesAll core.pager pager' q q' core.slots pool'
   purges_all core pager' pool' p q q' Done machine found allowed how = (tt, how)
   purges_all core pager' pool' p q q' (Refused reason) machine found allowed how = let why = how.why in cc
-  purges_all core pager' pool' p q q' (HandedBack frame slot) machine found allowed how = absurd (nothing_back core pager' pool' p q q' frame slot machine found how)
+  purges_all core pager' pool' p q q' (HandedBack slot) machine found allowed how = absurd (no_slot_back core pager' pool' p q q' slot machine found how)
 
   -- ---- the machine stays one
 
@@ -146,7 +127,7 @@ module _ {S : Type 0} where
       none None h = refl
       none (Some reason) h = cc
 
-  module _ {L : Type 0} (pager pager' : PagerSideValue) (pool pool' : PoolValue S) (jobs copies : List (JobValue S)) (items lent new : List (SpaceValue S)) (n p : ℕ) (result : Purging L S)
+  module _ (pager pager' : PagerSideValue) (pool pool' : PoolValue S) (jobs copies : List (JobValue S)) (items lent new : List (SpaceValue S)) (n p : ℕ) (result : Purging S)
       (machine : IsMachine (record { pager = pager; slots = pool; processes = items; jobs = jobs; copies = copies })) (allowed : purge_refusal p items ≡ None)
       (long : n ≡ length items) (same : lent ≡ items) (purges : PurgesAt pager pager' p lent new pool pool' result) where
     abbrev core : CoreValue S

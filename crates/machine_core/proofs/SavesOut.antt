@@ -22,7 +22,7 @@ use Rattle.machine_core.specs.declared.event.Reply.{Reply}
 use Rattle.machine_sides.specs.declared.saving_back.SaveFailure.{SaveFailure}
 use Rattle.machine_sides.specs.declared.saving_back.SaveFailure.TheVariants.{Mismatch, Device}
 use Rattle.machine_sides.specs.declared.saving_back.SaveOutcome.{SaveOutcome}
-use Rattle.machine_sides.specs.declared.saving_back.SaveOutcome.TheVariants.{Freed, HandedBack, WrongPage, ResidentAgain, NotRestored}
+use Rattle.machine_sides.specs.declared.saving_back.SaveOutcome.TheVariants.{Freed, WrongPage, ResidentAgain, NotRestored}
 use Rattle.machine_core.specs.Machine.{CoreValue, IsMachine, IsSaveOut, total, jobs_where}
 use Rattle.machine_sides.specs.Returning.{DoesNotList}
 use Rattle.machine_sides.specs.SavingBack.{ShowsFailure, EndsSave, Settles, LeavesAgain, FailsAndReturns, FailsAndLeaves}
@@ -32,7 +32,7 @@ use Rattle.machine_sides.specs.Sides.{PagerSideValue}
 use Rattle.machine_sides.specs.Together.{savings_in, key_of}
 use Rattle.swap_slots.specs.PoolValue.{PoolValue}
 use Rattle.machine_core.proofs.Cores.{lent_back}
-use Rattle.machine_core.proofs.Counted.{HoldsFrame, frame_missing, takes_back}
+use Rattle.machine_core.proofs.Counted.{HoldsFrame, takes_back}
 use Rattle.machine_core.proofs.Finding.{total_some}
 use Rattle.machine_core.proofs.Kept.{moved_machine, copies_stay, copies_even}
 use Rattle.machine_core.proofs.TotalLaws.{total_set, got_set, get_set_same, get_set_other}
@@ -95,16 +95,14 @@ module _ {S : Type 0} where
     only_memory Full pager' unlisted = absurd (takes Full pager' unlisted (λ e. cc))
     only_memory NoMemory pager' unlisted = refl
 
-    pub own : {L : Type 0} (outcome : SaveOutcome L S) (pager' : PagerSideValue) (q' : SpaceValue S) → EndsSave saved core.pager pager' q q' outcome → IsOwn outcome
+    pub own : (outcome : SaveOutcome S) (pager' : PagerSideValue) (q' : SpaceValue S) → EndsSave saved core.pager pager' q q' outcome → IsOwn outcome
     own Freed pager' q' ends = tt
-    own (HandedBack frame) pager' q' ends = let full = ends.full in let missing = frame_missing core key.process q saved.vpn machine found holds in omega (arith, full, missing)
     own (WrongPage back) pager' q' ends = ends.why found_out
     own (ResidentAgain failure) pager' q' ends = device_failed failure ends.between ends.settles
     own (NotRestored failure why) pager' q' ends = (device_failed failure q' ends.settles, only_memory why pager' ends.unlisted)
 
-    pub ends_with : {L : Type 0} (outcome : SaveOutcome L S) (pager' : PagerSideValue) (q' : SpaceValue S) (answer : Reply) → EndsSave saved core.pager pager' q q' outcome → RepliesTo outcome answer → EndsSaving saved core.pager pager' q q' answer
+    pub ends_with : (outcome : SaveOutcome S) (pager' : PagerSideValue) (q' : SpaceValue S) (answer : Reply) → EndsSave saved core.pager pager' q q' outcome → RepliesTo outcome answer → EndsSaving saved core.pager pager' q q' answer
     ends_with Freed pager' q' answer ends told = inl (ends, told)
-    ends_with (HandedBack frame) pager' q' answer ends told = absurd told
     ends_with (WrongPage back) pager' q' answer ends told = absurd told
     ends_with (ResidentAgain failure) pager' q' answer ends told = inr (inl (subst (FailsAndReturns saved core.pager pager' q q') (device_failed failure ends.between ends.settles) ends, told))
     ends_with (NotRestored failure why) pager' q' answer ends told =
@@ -236,7 +234,7 @@ module _ {S : Type 0} where
           })
 
   -- the processes that were lent as a slice, to one of which a save comes back
-  module _ {L : Type 0} (held : S → List ℕ) (honest : Type 0) (failures : S → ℕ) (pager pager' : PagerSideValue) (slots : PoolValue S) (jobs copies jobs' : List (JobValue S)) (items lent new : List (SpaceValue S)) (n : ℕ) (key : Key) (saved : SavedValue S) (outcome : SaveOutcome L S)
+  module _ (held : S → List ℕ) (honest : Type 0) (failures : S → ℕ) (pager pager' : PagerSideValue) (slots : PoolValue S) (jobs copies jobs' : List (JobValue S)) (items lent new : List (SpaceValue S)) (n : ℕ) (key : Key) (saved : SavedValue S) (outcome : SaveOutcome S)
       (machine : IsMachine (record { pager = pager; slots = slots; processes = items; jobs = jobs; copies = copies })) (long : n ≡ length items) (same : lent ≡ items)
       (makes : MakesSave held honest failures key jobs jobs' saved) (at : SavedAt held honest saved pager pager' key.process lent new outcome) where
     abbrev core : CoreValue S

@@ -14,7 +14,7 @@ use Rattle.machine_core.specs.MachineRun.{of_process}
 use Rattle.machine_sides.specs.Collecting.{is_leaving_at, Looks, IsNotYet, IsDropped, IsCopied, LacksAndReturns, LacksAndLeaves}
 use Rattle.machine_sides.specs.Sides.{PagerSideValue}
 use Rattle.machine_sides.specs.declared.collecting.Looked.{Looked}
-use Rattle.machine_sides.specs.declared.collecting.Looked.TheVariants.{NotLeaving, NotYet, Freed, Dirty, NoSlot, NotRestored, HandedBack}
+use Rattle.machine_sides.specs.declared.collecting.Looked.TheVariants.{NotLeaving, NotYet, Freed, Dirty, NoSlot, NotRestored}
 use Rattle.space_core.specs.StandsFor.{SpaceValue}
 
 module _ {S : Type 0} where
@@ -49,7 +49,7 @@ module _ {S : Type 0} where
   -- ---- the steps of the event
 
   -- a look at a page of the process of this number
-  pub record LooksAt (held : S → List ℕ) (honest : Type 0) {L : Type 0} (number vpn : ℕ) (pager pager' : PagerSideValue) (slots slots' : PoolValue S) (old new : List (SpaceValue S)) (looked : Looked L S) : Type 0 where
+  pub record LooksAt (held : S → List ℕ) (honest : Type 0) (number vpn : ℕ) (pager pager' : PagerSideValue) (slots slots' : PoolValue S) (old new : List (SpaceValue S)) (looked : Looked S) : Type 0 where
     pub process : SpaceValue S
     pub process' : SpaceValue S
     pub found : slice_get old number ≡ Some process
@@ -57,31 +57,28 @@ module _ {S : Type 0} where
     pub memory : honest → memory_of held process'.memory ≡ memory_of held process.memory
     pub is : new ≡ slice_set old number process'
 
-  -- what comes of a look at a page that is leaving in the machine, where each frame has its place and the list its pages
-  abbrev pub IsOwn : {L : Type 0} → Looked L S → Type 0
+  -- what comes of a look at a page that is leaving in the machine, where the list takes its pages back
+  abbrev pub IsOwn : Looked S → Type 0
   IsOwn NotLeaving = ⊥
   IsOwn NotYet = Unit {0}
   IsOwn Freed = Unit {0}
   IsOwn (Dirty job) = Unit {0}
   IsOwn NoSlot = Unit {0}
   IsOwn (NotRestored reason) = reason ≡ list.NoMemory
-  IsOwn (HandedBack frame) = ⊥
 
   -- the saves that are out after it, and the reply
-  abbrev pub jobs_after : {L : Type 0} → Looked L S → List (JobValue S) → List (JobValue S)
+  abbrev pub jobs_after : Looked S → List (JobValue S) → List (JobValue S)
   jobs_after NotLeaving jobs = jobs
   jobs_after NotYet jobs = jobs
   jobs_after Freed jobs = jobs
   jobs_after (Dirty job) jobs = jobs ++ job ∷ []
   jobs_after NoSlot jobs = jobs
   jobs_after (NotRestored reason) jobs = jobs
-  jobs_after (HandedBack frame) jobs = jobs
 
-  abbrev pub looked_reply : {L : Type 0} → Looked L S → Reply
+  abbrev pub looked_reply : Looked S → Reply
   looked_reply NotLeaving = reply.Refused refusal.NotLeaving
   looked_reply NotYet = reply.NotYet
   looked_reply Freed = reply.Freed
   looked_reply (Dirty job) = reply.Dirty
   looked_reply NoSlot = reply.NoSlot
   looked_reply (NotRestored reason) = reply.Refused refusal.NoMemory
-  looked_reply (HandedBack frame) = reply.Freed

@@ -22,10 +22,10 @@ purge_reason SavingStill = refusal.SavingStill
 purge_reason AlreadyPurged = refusal.Purged
 
 -- whether everything was given back
-abbrev pub IsDone : {L : Type 0} {S : Type 0} → Purging L S → Type 0
+abbrev pub IsDone : {S : Type 0} → Purging S → Type 0
 IsDone Done = Unit {0}
 IsDone (Refused reason) = ⊥
-IsDone (HandedBack frame slot) = ⊥
+IsDone (HandedBack slot) = ⊥
 
 module _ {S : Type 0} where
   -- why the event is refused
@@ -33,7 +33,7 @@ module _ {S : Type 0} where
   purge_refusal process processes = of_process (λ side. option_map purge_reason (purge_bars side)) (slice_get processes process)
 
   -- a purge of the process of this number
-  pub record PurgesAt {L : Type 0} (pager pager' : PagerSideValue) (number : ℕ) (old new : List (SpaceValue S)) (pool pool' : PoolValue S) (result : Purging L S) : Type 0 where
+  pub record PurgesAt (pager pager' : PagerSideValue) (number : ℕ) (old new : List (SpaceValue S)) (pool pool' : PoolValue S) (result : Purging S) : Type 0 where
     pub process : SpaceValue S
     pub process' : SpaceValue S
     pub found : slice_get old number ≡ Some process

@@ -12,7 +12,7 @@ use Rattle.machine_core.specs.declared.event.Reply.{Reply}
 use Rattle.machine_core.specs.declared.event.Reply.TheVariants as reply
 use Rattle.machine_sides.specs.declared.saving_back.SaveFailure.TheVariants.{Device}
 use Rattle.machine_sides.specs.declared.saving_back.SaveOutcome.{SaveOutcome}
-use Rattle.machine_sides.specs.declared.saving_back.SaveOutcome.TheVariants.{Freed, HandedBack, WrongPage, ResidentAgain, NotRestored}
+use Rattle.machine_sides.specs.declared.saving_back.SaveOutcome.TheVariants.{Freed, WrongPage, ResidentAgain, NotRestored}
 use Rattle.machine_core.specs.Machine.{CoreValue}
 use Rattle.machine_core.specs.MachineRun.{of_process}
 use Rattle.machine_sides.specs.SavingBack.{is_saving_at, EndsSave, IsFreed, FailsAndReturns, FailsAndLeaves}
@@ -71,7 +71,7 @@ module _ {S : Type 0} where
   -- ---- the steps of the event
 
   -- a save comes back to the pager and the process of this number
-  pub record SavedAt (held : S → List ℕ) (honest : Type 0) {L : Type 0} (saved : SavedValue S) (pager pager' : PagerSideValue) (number : ℕ) (old new : List (SpaceValue S)) (outcome : SaveOutcome L S) : Type 0 where
+  pub record SavedAt (held : S → List ℕ) (honest : Type 0) (saved : SavedValue S) (pager pager' : PagerSideValue) (number : ℕ) (old new : List (SpaceValue S)) (outcome : SaveOutcome S) : Type 0 where
     pub process : SpaceValue S
     pub process' : SpaceValue S
     pub found : slice_get old number ≡ Some process
@@ -80,17 +80,15 @@ module _ {S : Type 0} where
     pub is : new ≡ slice_set old number process'
 
   -- what comes of a save that the machine made itself
-  abbrev pub IsOwn : {L : Type 0} → SaveOutcome L S → Type 0
+  abbrev pub IsOwn : SaveOutcome S → Type 0
   IsOwn Freed = Unit {0}
-  IsOwn (HandedBack frame) = ⊥
   IsOwn (WrongPage job) = ⊥
   IsOwn (ResidentAgain failure) = failure ≡ Device
   IsOwn (NotRestored failure why) = (failure ≡ Device) × (why ≡ list.NoMemory)
 
   -- the reply to it
-  abbrev pub RepliesTo : {L : Type 0} → SaveOutcome L S → Reply → Type 0
+  abbrev pub RepliesTo : SaveOutcome S → Reply → Type 0
   RepliesTo Freed answer = answer ≡ reply.Freed
-  RepliesTo (HandedBack frame) answer = ⊥
   RepliesTo (WrongPage job) answer = ⊥
   RepliesTo (ResidentAgain failure) answer = answer ≡ reply.Device
   RepliesTo (NotRestored failure why) answer = answer ≡ reply.Refused refusal.NoMemory

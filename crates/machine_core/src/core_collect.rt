@@ -57,7 +57,7 @@ fn collect_at<L: Ledger, S: SwapSlot, C: Clock>(
     processes: &mut [Space<L, S>],
     key: Key,
     slots: &mut SlotPool<S>,
-) -> Looked<L, S>
+) -> Looked<S>
     requires { key.process < length processes.old }
     ensures { LooksAt S.content S.honest key.process key.vpn pager.old pager.new slots.old
         slots.new processes.old processes.new result }
@@ -66,7 +66,7 @@ fn collect_at<L: Ledger, S: SwapSlot, C: Clock>(
 }
 
 /// Keeps the save of a changed page, and tells what is replied.
-fn keep<L: Ledger, S: SwapSlot>(looked: Looked<L, S>, jobs: &mut Vec<SaveJob<S>>) -> Reply
+fn keep<S: SwapSlot>(looked: Looked<S>, jobs: &mut Vec<SaveJob<S>>) -> Reply
     requires own { IsOwn looked }
     requires room { vec_len jobs.old < vec_capacity jobs.old }
     ensures reply { result ≡ looked_reply looked }
@@ -74,7 +74,7 @@ fn keep<L: Ledger, S: SwapSlot>(looked: Looked<L, S>, jobs: &mut Vec<SaveJob<S>>
     ensures capacity { vec_capacity jobs.new ≡ vec_capacity jobs.old }
 {
     match looked {
-        Looked::NotLeaving | Looked::HandedBack(_) => unreachable!(),
+        Looked::NotLeaving => unreachable!(),
         Looked::NotYet => Reply::NotYet,
         Looked::Freed => Reply::Freed,
         Looked::Dirty(job) => {

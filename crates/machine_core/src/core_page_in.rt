@@ -1,6 +1,6 @@
 //! The event of a page that comes in.
 
-ghost use Rattle.std.specs.Prelude.{◌≡◌, ◌⊎◌, ◌<◌, ◌≤◌, length};
+ghost use Rattle.std.specs.Prelude.{◌≡◌, ◌⊎◌, ◌<◌, length};
 ghost use Rattle.machine_core.specs.MachineRun.{RefusesEvent};
 ghost use Rattle.machine_core.specs.PagingIn.{page_in_refusal, PagesInAt, PagesInOnce};
 
@@ -33,8 +33,7 @@ fn page_in_at<L: Ledger, S: SwapSlot, C: Clock>(
     processes: &mut [Space<L, S>],
     key: Key,
 ) -> Reply
-    requires there { key.process < length processes.old }
-    requires fits { length pager.old.pager.free ≤ pager.old.pager.size }
+    requires { key.process < length processes.old }
     ensures { PagesInAt S.content S.honest S.failures key pager.old pager.new processes.old
         processes.new result }
 {

@@ -67,7 +67,7 @@ fn purge_at<L: Ledger, S: SwapSlot, C: Clock>(
     processes: &mut [Space<L, S>],
     process: usize,
     slots: &mut SlotPool<S>,
-) -> Purging<L, S>
+) -> Purging<S>
     requires { process < length processes.old }
     ensures { PurgesAt pager.old pager.new process processes.old processes.new slots.old slots.new
         result }
@@ -76,12 +76,12 @@ fn purge_at<L: Ledger, S: SwapSlot, C: Clock>(
 }
 
 /// What is replied where everything was given back.
-fn done_reply<L: Ledger, S: SwapSlot>(purging: Purging<L, S>) -> Reply
+fn done_reply<S: SwapSlot>(purging: Purging<S>) -> Reply
     requires { IsDone purging }
     ensures { result ≡ Reply.Purged }
 {
     match purging {
         Purging::Done => Reply::Purged,
-        Purging::Refused(_) | Purging::HandedBack { .. } => unreachable!(),
+        Purging::Refused(_) | Purging::HandedBack(_) => unreachable!(),
     }
 }

@@ -61,7 +61,7 @@ fn saved_at<L: Ledger, S: SwapSlot, C: Clock>(
     processes: &mut [Space<L, S>],
     process: usize,
     job: SavedJob<S>,
-) -> SaveOutcome<L, S>
+) -> SaveOutcome<S>
     requires { process < length processes.old }
     ensures { SavedAt S.content S.honest job pager.old pager.new process processes.old
         processes.new result }
@@ -70,13 +70,12 @@ fn saved_at<L: Ledger, S: SwapSlot, C: Clock>(
 }
 
 /// What a save that the machine made itself is replied with.
-fn saved_reply<L: Ledger, S: SwapSlot>(outcome: SaveOutcome<L, S>) -> Reply
+fn saved_reply<S: SwapSlot>(outcome: SaveOutcome<S>) -> Reply
     requires { IsOwn outcome }
     ensures { RepliesTo outcome result }
 {
     match outcome {
         SaveOutcome::Freed => Reply::Freed,
-        SaveOutcome::HandedBack(_) => unreachable!(),
         SaveOutcome::WrongPage(_) => unreachable!(),
         SaveOutcome::ResidentAgain(_) => Reply::Device,
         SaveOutcome::NotRestored { .. } => Reply::Refused(EventRefusal::NoMemory),

@@ -1,6 +1,6 @@
 //! The event of a page-in: the page is admitted and loaded, or its admission is undone.
 
-ghost use Rattle.std.specs.Prelude.{◌≡◌, ◌≤◌, length};
+ghost use Rattle.std.specs.Prelude.{◌≡◌};
 ghost use Rattle.machine_core.specs.PagingIn.{admit_reason, fault_reply, PagesIn};
 
 use crate::error::EventRefusal;
@@ -18,7 +18,6 @@ pub(crate) fn page_in<L: Ledger, S: SwapSlot, C: Clock>(
     process: &mut Space<L, S>,
     key: Key,
 ) -> Reply
-    requires { length pager.old.pager.free ≤ pager.old.pager.size }
     ensures { PagesIn S.content S.honest S.failures key pager.old pager.new process.old process.new
         result }
 {
@@ -30,9 +29,7 @@ pub(crate) fn page_in<L: Ledger, S: SwapSlot, C: Clock>(
         Ok(()) => return Reply::Mapped,
         Err(back) => back,
     };
-    if undo(pager, process, admission).is_err() {
-        unreachable!()
-    }
+    undo(pager, process, admission);
     fault_reply(fault)
 }
 

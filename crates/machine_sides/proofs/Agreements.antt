@@ -227,28 +227,20 @@ module _ {S : Type 0} where
   -- ---- a look at a page, and a save that comes back
 
   module _ (vpn : ℕ) (pager pager' : PagerSideValue) (old new : SpaceValue S) (slots slots' : PoolValue S) where
-    looked_process : {L : Type 0} (result : Looked L S) → Looks vpn pager pager' old new slots slots' result → new.memory.process ≡ old.memory.process
+    looked_process : (result : Looked S) → Looks vpn pager pager' old new slots slots' result → new.memory.process ≡ old.memory.process
     looked_process looked.NotLeaving how = ap (λ (q : SpaceValue S). q.memory.process) how.1.process_stays
     looked_process looked.NotYet how = ap (λ (q : SpaceValue S). q.memory.process) how.stays.process_stays
     looked_process looked.Freed how = dropped_process vpn how.frame old new how.drops
     looked_process (looked.Dirty job) how = copied_process vpn job old new slots slots' how.saving
     looked_process looked.NoSlot how = how.returns.mapped.moves.process
     looked_process (looked.NotRestored reason) how = ap (λ (q : SpaceValue S). q.memory.process) how.leaves.stays
-    looked_process (looked.HandedBack frame) how = dropped_process vpn frame old new how.drops
 
-    pub looks_agree : {L : Type 0} (result : Looked L S) → Looks vpn pager pager' old new slots slots' result → AgreeStill None pager.pager pager'.pager old new
+    pub looks_agree : (result : Looked S) → Looks vpn pager pager' old new slots slots' result → AgreeStill None pager.pager pager'.pager old new
     looks_agree result how = listed_agree pager.pager pager'.pager old new (looked_process result how) (looks_listed vpn pager pager' old new slots slots' result how)
 
   module _ (job : SavedValue S) (pager pager' : PagerSideValue) (process process' : SpaceValue S) where
-    pub saved_agrees : {L : Type 0} (outcome : SaveOutcome L S) → EndsSave job pager pager' process process' outcome → AgreeStill None pager.pager pager'.pager process process'
+    pub saved_agrees : (outcome : SaveOutcome S) → EndsSave job pager pager' process process' outcome → AgreeStill None pager.pager pager'.pager process process'
     saved_agrees saved.Freed how = together_agree pager.pager pager'.pager process process' (freed_ends job pager pager' process process' how).together
-    saved_agrees (saved.HandedBack frame) how =
-        let told = gone_away job frame process.memory process'.memory how.settles.moves in
-        listed_agree pager.pager pager'.pager process process' told.keeps.process
-        (λ test.
-        let pages = residents_same process process' told.keeps.process test told.residents in
-        let listed : residents pager'.pager.list test ≡ residents pager.pager.list test = ap (λ (p : PagerSideValue). residents p.pager.list test) how.stays in
-        omega (arith, pages, listed))
     saved_agrees (saved.WrongPage back) how = same_agree pager pager' process process' how.pager_stays how.process_stays
     saved_agrees (saved.ResidentAgain failure) how = together_agree pager.pager pager'.pager process process' (returned_ends job pager pager' process process' failure how).together
     saved_agrees (saved.NotRestored failure refusal) how = together_agree pager.pager pager'.pager process process' (left_ends job pager pager' process process' failure refusal how).together
@@ -263,11 +255,11 @@ module _ {S : Type 0} where
       ∙ neither (λ q. q.process == process.memory.process) (λ q. q.vpn == vpn) pager.pager.list
       ∙ sym (given_residents process process' all.moves (unbarred process all.allowed).1.0 (is_key (key_of process.memory.process vpn)))
 
-  pub purge_agrees : {L : Type 0} (pager pager' : PagerSideValue) (process process' : SpaceValue S) (pool pool' : PoolValue S) (purging : Purging L S)
+  pub purge_agrees : (pager pager' : PagerSideValue) (process process' : SpaceValue S) (pool pool' : PoolValue S) (purging : Purging S)
       → Purges pager pager' process process' pool pool' purging → AgreesPurged pager.pager pager'.pager process process' purging
   purge_agrees pager pager' process process' pool pool' purge.Done how = record { process = how.moves.process; agree = λ vpn out agreed. purged_agree pager pager' process process' pool pool' how vpn }
   purge_agrees pager pager' process process' pool pool' (purge.Refused reason) how = same_agree pager pager' process process' how.pager_stays how.process_stays
-  purge_agrees pager pager' process process' pool pool' (purge.HandedBack frame slot) how =
+  purge_agrees pager pager' process process' pool pool' (purge.HandedBack slot) how =
       λ vpn same agreed.
       let listed : residents pager'.pager.list (is_key (key_of process.memory.process vpn)) ≡ residents pager.pager.list (is_key (key_of process.memory.process vpn)) = ap (λ (p : PagerState). residents p.list (is_key (key_of process.memory.process vpn))) how.stops.gave.pager_is in
       listed ∙ agreed ∙ sym (left_counts process process' vpn how.stops.gave.process same)

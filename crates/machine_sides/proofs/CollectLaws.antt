@@ -38,14 +38,14 @@ module _ {S : Type 0} where
   pub dropped_together : (vpn : ℕ) (pager pager' : PagerSideValue) (old new : SpaceValue S) (slots slots' : PoolValue S) → IsDropped vpn pager pager' old new slots slots' → Together pager.pager pager'.pager old new
   dropped_together vpn pager pager' old new slots slots' dropped = record {
     listed = λ test.
-        let list : residents pager'.pager.list test ≡ residents pager.pager.list test = ap (λ (p : PagerSideValue). residents p.pager.list test) dropped.frees.is in
+        let list : residents pager'.pager.list test ≡ residents pager.pager.list test = ap (λ (p : PagerSideValue). residents p.pager.list test) dropped.frees in
         let pages = dropped_residents vpn dropped.frame old new dropped.drops test in
         omega (arith, list, pages);
     framed = λ test.
-        let free : frames_where test pager'.pager.free ≡ frames_where test pager.pager.free + cond (test dropped.frame.number) 1 0 = ap (λ (p : PagerSideValue). frames_where test p.pager.free) dropped.frees.is ∙ one_more_free test pager.pager.free dropped.frame in
+        let free : frames_where test pager'.pager.free ≡ frames_where test pager.pager.free + cond (test dropped.frame.number) 1 0 = ap (λ (p : PagerSideValue). frames_where test p.pager.free) dropped.frees ∙ one_more_free test pager.pager.free dropped.frame in
         let pages = dropped_frames vpn dropped.frame old new dropped.drops test in
         omega (arith, free, pages);
-    size = ap (λ (p : PagerSideValue). p.pager.size) dropped.frees.is;
+    size = ap (λ (p : PagerSideValue). p.pager.size) dropped.frees;
     process = dropped_process vpn dropped.frame old new dropped.drops;
   }
 

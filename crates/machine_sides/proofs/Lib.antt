@@ -1,4 +1,3 @@
-pub mod AdmitLaws
 pub mod ApartLaws
 pub mod AuditLaws
 pub mod CollectLaws

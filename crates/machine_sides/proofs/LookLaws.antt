@@ -6,7 +6,7 @@ use Rattle.swap_slots.specs.PoolValue.{PoolValue}
 use Rattle.machine_sides.specs.Collecting.{Looks}
 use Rattle.machine_sides.proofs.CollectLaws.{dropped_residents, dropped_together, copied_together}
 use Rattle.machine_sides.specs.declared.collecting.Looked.{Looked}
-use Rattle.machine_sides.specs.declared.collecting.Looked.TheVariants.{NotLeaving, NotYet, Freed, Dirty, NoSlot, NotRestored, HandedBack}
+use Rattle.machine_sides.specs.declared.collecting.Looked.TheVariants.{NotLeaving, NotYet, Freed, Dirty, NoSlot, NotRestored}
 use Rattle.machine_sides.proofs.ReturnLaws.{back_together}
 use Rattle.machine_sides.specs.Sides.{PagerSideValue}
 use Rattle.machine_sides.specs.Together.{Together, residents_in}
@@ -20,14 +20,10 @@ module _ {S : Type 0} where
 
   module _ (vpn : ℕ) (pager pager' : PagerSideValue) (old new : SpaceValue S) (slots slots' : PoolValue S) where
     -- the list gains or loses what the process's resident pages do, whatever the look comes to
-    pub looks_listed : {L : Type 0} (looked : Looked L S) → Looks vpn pager pager' old new slots slots' looked → (test : Key → Bool) → residents pager'.pager.list test + residents_in old test ≡ residents pager.pager.list test + residents_in new test
+    pub looks_listed : (looked : Looked S) → Looks vpn pager pager' old new slots slots' looked → (test : Key → Bool) → residents pager'.pager.list test + residents_in old test ≡ residents pager.pager.list test + residents_in new test
     looks_listed NotLeaving how test = (same_sides pager pager' old new how.1.pager_stays how.1.process_stays).listed test
     looks_listed NotYet how test = (same_sides pager pager' old new how.stays.pager_stays how.stays.process_stays).listed test
     looks_listed Freed how test = (dropped_together vpn pager pager' old new slots slots' how).listed test
     looks_listed (Dirty job) how test = (copied_together vpn pager pager' old new slots slots' job how).listed test
     looks_listed NoSlot how test = (back_together vpn pager pager' old new how.returns).listed test
     looks_listed (NotRestored reason) how test = (same_sides pager pager' old new how.leaves.unlisted.stays how.leaves.stays).listed test
-    looks_listed (HandedBack frame) how test =
-        let list : residents pager'.pager.list test ≡ residents pager.pager.list test = ap (λ (p : PagerSideValue). residents p.pager.list test) how.pager_stays in
-        let pages = dropped_residents vpn frame old new how.drops test in
-        omega (arith, list, pages)

@@ -1,5 +1,5 @@
 -- Pages give back what they have, one after another.
-use Rattle.std.proofs.Common.{◌≡◌, ℕ, ◌+◌, ◌++◌, ◌^◌, Bool, true, false, ◌||◌, cond, List, [], length, Option, Some, None, is_some, IsSome, refl, sym, ap, ◌∙◌, arith, subst}
+use Rattle.std.proofs.Common.{◌≡◌, ℕ, ◌+◌, ◌++◌, ◌^◌, Bool, true, false, cond, List, [], length, Option, Some, None, is_some, IsSome, refl, sym, ap, ◌∙◌, arith, subst}
 use Rattle.std.proofs.lemmas.List.{append-nil, append_assoc, length-append}
 use Rattle.flat_machine.specs.declared.end.End.{End}
 use Rattle.frame_pool.specs.FrameValue.{FrameValue}
@@ -16,7 +16,7 @@ use Rattle.space_core.specs.Caches.{if_ended, emptied}
 use Rattle.space_core.specs.StandsFor.{SpaceValue}
 use Rattle.machine_sides.specs.Together.{frames_where, frames_in}
 use Rattle.machine_sides.proofs.PurgeLaws.{frames_where-append}
-use Rattle.machine_sides.specs.Purging.{as_list, FreesAnyFrame, Pools, GivesSome, StopsGiving, GivesToPools}
+use Rattle.machine_sides.specs.Purging.{as_list, FreesAnyFrame, Pools, GivesAllBack, GivesSome, StopsGiving, GivesToPools}
 
 frames_where-as_list : (test : ℕ → Bool) (o : Option FrameValue) → frames_where test (as_list o) ≡ cond (frame_passes test o) 1 0
 unfolding frames_where
@@ -27,38 +27,10 @@ length-as_list : {A : Type 0} (o : Option A) → length (as_list o) ≡ cond (is
 length-as_list None = refl
 length-as_list (Some a) = refl
 
--- the free frames once one more came free, or was handed back
-record FreesMore (pager pager' : PagerState) (frames : List FrameValue) (given frame : Option FrameValue) : Type 0 where
-  pub more : List FrameValue
-  pub is : pager' ≡ record pager { free = pager.free ++ more }
-  pub counts : (test : ℕ → Bool) → frames_where test more + cond (frame_passes test frame) 1 0 ≡ frames_where test frames + cond (frame_passes test given) 1 0
-
-frees_more : (pager between pager' : PagerState) (frames : List FrameValue) (given frame : Option FrameValue) → between ≡ record pager { free = pager.free ++ frames } → FreesAnyFrame given frame between pager' → FreesMore pager pager' frames given frame
-frees_more pager between pager' frames given None was frees = record {
-  more = frames ++ as_list given;
-  is = frees ∙ ap (λ (p : PagerState). record p { free = p.free ++ as_list given }) was ∙ ap (λ l. record pager { free = l }) (append_assoc pager.free frames (as_list given));
-  counts = λ test. omega (arith, frames_where-append test frames (as_list given), frames_where-as_list test given);
-}
-frees_more pager between pager' frames given (Some back) was frees = record {
-  more = frames;
-  is = frees.1.1 ∙ was;
-  counts = λ test. ap (λ o. frames_where test frames + cond (frame_passes test o) 1 0) (sym frees.0);
-}
-
-frame_stays : (given frame : Option FrameValue) (old new : PagerState) → FreesAnyFrame given frame old new → is_some frame ≡ true → length new.free ≡ new.size
-frame_stays given None old new frees h = cc
-frame_stays given (Some back) old new frees h = ap (λ (p : PagerState). length p.free) frees.1.1 ∙ frees.1.0 ∙ sym (ap (λ (p : PagerState). p.size) frees.1.1)
-
-either : (a b : Bool) → a ≡ true → a || b ≡ true
-either true b h = refl
-either false b h = cc
-
-pub first_some : (frame : Option FrameValue) (b : Bool) → is_some frame ≡ true → is_some frame || b ≡ true
-first_some frame b h = either (is_some frame) b h
-
-pub then_some : (a b : Bool) → b ≡ true → a || b ≡ true
-then_some true b h = refl
-then_some false b h = h
+-- the free frames once one more came free
+frees_more : (pager between pager' : PagerState) (frames : List FrameValue) (given : Option FrameValue) → between ≡ record pager { free = pager.free ++ frames } → FreesAnyFrame given between pager' → pager' ≡ record pager { free = pager.free ++ (frames ++ as_list given) }
+frees_more pager between pager' frames given was frees =
+    frees ∙ ap (λ (p : PagerState). record p { free = p.free ++ as_list given }) was ∙ ap (λ l. record pager { free = l }) (append_assoc pager.free frames (as_list given))
 
 is_none_of : {A : Type 0} (o : Option A) → is_some o ≡ false → o ≡ None
 is_none_of None h = refl
@@ -90,7 +62,7 @@ module _ {S : Type 0} where
   }
 
   -- no page has given anything back
-  pub none_gave : (pager : PagerState) (pool : PoolValue S) (space : SpaceValue S) → GivesSome None None pager pager pool pool space space
+  pub none_gave : (pager : PagerState) (pool : PoolValue S) (space : SpaceValue S) → GivesSome None pager pager pool pool space space
   unfolding frames_where
   none_gave pager pool space = record {
     frames = [];
@@ -108,26 +80,24 @@ module _ {S : Type 0} where
   }
 
   -- one page more gives back
-  pub one_more_gave : (given : Option FrameValue × Option S) (frame : Option FrameValue) (slot : Option S) (pager between pager' : PagerState) (pool amid pool' : PoolValue S) (old mid new : SpaceValue S)
-      → GivesSome None None pager between pool amid old mid
+  pub one_more_gave : (given : Option FrameValue × Option S) (slot : Option S) (pager between pager' : PagerState) (pool amid pool' : PoolValue S) (old mid new : SpaceValue S)
+      → GivesSome None pager between pool amid old mid
       → GivesIn given mid.memory new.memory → new ≡ record mid { memory = new.memory } → new.memory.process ≡ mid.memory.process → SameTablesIn mid.memory new.memory × (new.memory.reserved ≡ mid.memory.reserved)
-      → FreesAnyFrame given.0 frame between pager' → Pools given.1 slot amid pool'
-      → GivesSome frame slot pager pager' pool pool' old new
+      → FreesAnyFrame given.0 between pager' → Pools given.1 slot amid pool'
+      → GivesSome slot pager pager' pool pool' old new
   unfolding frames_in
-  one_more_gave given frame slot pager between pager' pool amid pool' old mid new gave one stays process rest frees pools =
-      let f = frees_more pager between pager' gave.frames given.0 frame gave.pager_is frees in
+  one_more_gave given slot pager between pager' pool amid pool' old mid new gave one stays process rest frees pools =
       let p = pools_more pool amid pool' gave.slots given.1 slot gave.pool_is pools in
       let told = has_given given mid.memory new.memory one in
       record {
-        frames = f.more;
+        frames = gave.frames ++ as_list given.0;
         slots = p.more;
-        pager_is = f.is;
+        pager_is = frees_more pager between pager' gave.frames given.0 gave.pager_is frees;
         pool_is = p.is;
         framed = λ test.
             let a = gave.framed test in
-            let b = f.counts test in
             let c = told.frames test in
-            omega (arith, a, b, c);
+            omega (arith, a, c, frames_where-append test gave.frames (as_list given.0), frames_where-as_list test given.0);
         slotted =
             let a = gave.slotted in
             let b = p.counts in
@@ -147,12 +117,12 @@ module _ {S : Type 0} where
   ended_caches (Some end) memory h = refl
 
   -- the process has ended all along
-  pub ended_still : (pager pager' : PagerState) (pool pool' : PoolValue S) (old new : SpaceValue S) → GivesSome None None pager pager' pool pool' old new → IsSome old.running.ending → IsSome new.running.ending
+  pub ended_still : (pager pager' : PagerState) (pool pool' : PoolValue S) (old new : SpaceValue S) → GivesSome None pager pager' pool pool' old new → IsSome old.running.ending → IsSome new.running.ending
   ended_still pager pager' pool pool' old new gave ended = subst (λ (s : SpaceValue S). IsSome s.running.ending) (sym gave.stays) ended
 
   -- no page has anything left
   pub all_gave : (pager pager' : PagerState) (pool pool' : PoolValue S) (old mid new : SpaceValue S)
-      → GivesSome None None pager pager' pool pool' old mid → IsSome mid.running.ending → harts_in mid.memory ≡ harts_in old.memory
+      → GivesSome None pager pager' pool pool' old mid → IsSome mid.running.ending → harts_in mid.memory ≡ harts_in old.memory
       → new ≡ record mid { memory = if_ended mid.running.ending mid.memory }
       → HasNothingBelow (2 ^ 20) mid.memory → GivesToPools pager pager' pool pool' old new
   unfolding frames_in
@@ -188,18 +158,17 @@ module _ {S : Type 0} where
   slot_stays given None old new pools h = cc
   slot_stays given (Some back) old new pools h = ap (λ (p : PoolValue S). length p.free) pools.1.1 ∙ pools.1.0 ∙ sym (ap (λ (p : PoolValue S). p.size) pools.1.1)
 
-  -- what a page gave does not come where it is to
-  pub stopped : (given : Option FrameValue × Option S) (frame : Option FrameValue) (slot : Option S) (pager between pager' : PagerState) (pool amid pool' : PoolValue S) (old mid new : SpaceValue S)
-      → GivesSome None None pager between pool amid old mid
+  -- the slot that a page gave does not come into the pool
+  pub stopped : (given : Option FrameValue × Option S) (left : Option S) (pager between pager' : PagerState) (pool amid pool' : PoolValue S) (old mid new : SpaceValue S)
+      → GivesSome None pager between pool amid old mid
       → GivesIn given mid.memory new.memory → new ≡ record mid { memory = new.memory } → new.memory.process ≡ mid.memory.process → SameTablesIn mid.memory new.memory × (new.memory.reserved ≡ mid.memory.reserved)
-      → FreesAnyFrame given.0 frame between pager' → Pools given.1 slot amid pool'
-      → EmptiesCaches old.memory new.memory → is_some frame || is_some slot ≡ true
-      → StopsGiving frame slot pager pager' pool pool' old new
-  stopped given frame slot pager between pager' pool amid pool' old mid new gave one stays process rest frees pools caches some = record {
-    some = some;
-    gave = one_more_gave given frame slot pager between pager' pool amid pool' old mid new gave one stays process rest frees pools;
-    frame_full = frame_stays given.0 frame between pager' frees;
-    slot_full = slot_stays given.1 slot amid pool' pools;
+      → FreesAnyFrame given.0 between pager' → Pools given.1 left amid pool'
+      → EmptiesCaches old.memory new.memory → is_some left ≡ true
+      → GivesAllBack left pager pager' pool pool' old new
+  stopped given None pager between pager' pool amid pool' old mid new gave one stays process rest frees pools caches some = cc
+  stopped given (Some slot) pager between pager' pool amid pool' old mid new gave one stays process rest frees pools caches some = record {
+    gave = one_more_gave given (Some slot) pager between pager' pool amid pool' old mid new gave one stays process rest frees pools;
+    full = slot_stays given.1 (Some slot) amid pool' pools refl;
     caches = caches;
   }
 
@@ -208,11 +177,11 @@ module _ {S : Type 0} where
   caches_now old mid new ended harts same = empties_as old.memory mid.memory new.memory harts (same ∙ ended_caches mid.running.ending mid.memory ended)
 
   -- what a page gave has come where it is to
-  pub went_on : (given : Option FrameValue × Option S) (frame : Option FrameValue) (slot : Option S) (pager between pager' : PagerState) (pool amid pool' : PoolValue S) (old mid new : SpaceValue S)
-      → GivesSome None None pager between pool amid old mid
+  pub went_on : (given : Option FrameValue × Option S) (slot : Option S) (pager between pager' : PagerState) (pool amid pool' : PoolValue S) (old mid new : SpaceValue S)
+      → GivesSome None pager between pool amid old mid
       → GivesIn given mid.memory new.memory → new ≡ record mid { memory = new.memory } → new.memory.process ≡ mid.memory.process → SameTablesIn mid.memory new.memory × (new.memory.reserved ≡ mid.memory.reserved)
-      → FreesAnyFrame given.0 frame between pager' → Pools given.1 slot amid pool' → is_some frame ≡ false → is_some slot ≡ false
-      → GivesSome None None pager pager' pool pool' old new
-  went_on given frame slot pager between pager' pool amid pool' old mid new gave one stays process rest frees pools no_frame no_slot =
-      one_more_gave given None None pager between pager' pool amid pool' old mid new gave one stays process rest
-      (subst (λ o. FreesAnyFrame given.0 o between pager') (is_none_of frame no_frame) frees) (subst (λ o. Pools given.1 o amid pool') (is_none_of slot no_slot) pools)
+      → FreesAnyFrame given.0 between pager' → Pools given.1 slot amid pool' → is_some slot ≡ false
+      → GivesSome None pager pager' pool pool' old new
+  went_on given slot pager between pager' pool amid pool' old mid new gave one stays process rest frees pools no_slot =
+      one_more_gave given None pager between pager' pool amid pool' old mid new gave one stays process rest frees
+      (subst (λ o. Pools given.1 o amid pool') (is_none_of slot no_slot) pools)

@@ -45,7 +45,7 @@ module _ {S : Type 0} where
     pub freed_ends : IsFreed job pager pager' process process' → SaveEnds job.vpn pager.pager pager'.pager process process'
     freed_ends freed =
         let told = gone_away job freed.frame process.memory process'.memory freed.settles.moves in
-        let list : pager'.pager.list ≡ pager.pager.list = ap (λ (p : PagerSideValue). p.pager.list) freed.frees.freed in
+        let list : pager'.pager.list ≡ pager.pager.list = ap (λ (p : PagerSideValue). p.pager.list) freed.frees in
         record {
           together = record {
             listed = λ test.
@@ -54,9 +54,9 @@ module _ {S : Type 0} where
                 omega (arith, pages, listed);
             framed = λ test.
                 let pages = frames_fewer process process' freed.frame.number told.frames test in
-                let free : frames_where test pager'.pager.free ≡ frames_where test pager.pager.free + cond (test freed.frame.number) 1 0 = ap (λ (p : PagerSideValue). frames_where test p.pager.free) freed.frees.freed ∙ one_more_free test pager.pager.free freed.frame in
+                let free : frames_where test pager'.pager.free ≡ frames_where test pager.pager.free + cond (test freed.frame.number) 1 0 = ap (λ (p : PagerSideValue). frames_where test p.pager.free) freed.frees ∙ one_more_free test pager.pager.free freed.frame in
                 omega (arith, pages, free);
-            size = ap (λ (p : PagerSideValue). p.pager.size) freed.frees.freed;
+            size = ap (λ (p : PagerSideValue). p.pager.size) freed.frees;
             process = told.keeps.process;
           };
           savings = λ test. savings_fewer process process' told.keeps.process test job.vpn told.savings;

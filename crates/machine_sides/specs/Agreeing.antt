@@ -29,9 +29,9 @@ module _ {S : Type 0} where
   abbrev pub AsksOf : PagerState → SpaceValue S → Type 0
   AsksOf pager space = (key : Key) → question_of pager.list ≡ Some key → key.process ≡ space.memory.process
 
-  -- the same of a purge, where a frame or a slot that is handed back leaves to the next call those pages that the list is to forget
-  abbrev pub AgreesPurged : {L : Type 0} → PagerState → PagerState → SpaceValue S → SpaceValue S → Purging L S → Type 0
+  -- the same of a purge, where a slot that is handed back leaves to the next call those pages that the list is to forget
+  abbrev pub AgreesPurged : PagerState → PagerState → SpaceValue S → SpaceValue S → Purging S → Type 0
   AgreesPurged pager pager' space space' Done = AgreeStill None pager pager' space space'
   AgreesPurged pager pager' space space' (Refused reason) = AgreeStill None pager pager' space space'
-  AgreesPurged pager pager' space space' (HandedBack frame slot) =
+  AgreesPurged pager pager' space space' (HandedBack slot) =
       (vpn : ℕ) → SamePage space.memory space'.memory vpn → Agree pager space (key_of space.memory.process vpn) → Agree pager' space' (key_of space.memory.process vpn)

@@ -14,12 +14,11 @@ use Rattle.machine_sides.specs.Admitting.{stage_at}
 use Rattle.machine_sides.specs.Returning.{ComesBack, StaysLeaving}
 use Rattle.machine_sides.specs.Sides.{PagerSideValue, MovesMemory}
 use Rattle.machine_sides.specs.declared.collecting.Looked.{Looked}
-use Rattle.machine_sides.specs.declared.collecting.Looked.TheVariants.{NotLeaving, NotYet, Freed, Dirty, NoSlot, NotRestored, HandedBack}
+use Rattle.machine_sides.specs.declared.collecting.Looked.TheVariants.{NotLeaving, NotYet, Freed, Dirty, NoSlot, NotRestored}
 
--- the frame of an unchanged page is free, and counted; one is missing there
-pub record FreesDropped (frame : FrameValue) (old new : PagerSideValue) : Type 0 where
-  pub missing : length old.pager.free ≢ old.pager.size
-  pub is : new ≡ record old { pager = record old.pager { free = old.pager.free ++ frame ∷ [] }; drops = tallied old.drops }
+-- the frame of an unchanged page is free, and counted
+abbrev pub FreesDropped : FrameValue → PagerSideValue → PagerSideValue → Type 0
+FreesDropped frame old new = new ≡ record old { pager = record old.pager { free = old.pager.free ++ frame ∷ [] }; drops = tallied old.drops }
 
 module _ {S : Type 0} where
   -- whether the page of a number is leaving, whatever the number
@@ -79,13 +78,6 @@ module _ {S : Type 0} where
       pub frees : FreesDropped frame pager pager'
       pub slots_stay : slots' ≡ slots
 
-    -- the page goes to its backing, and its frame is not the pager's, of which all are free
-    pub record IsHandedBack (frame : FrameValue) : Type 0 where
-      pub drops : Drops vpn frame old new
-      pub full : length pager.pager.free ≡ pager.pager.size
-      pub pager_stays : pager' ≡ pager
-      pub slots_stay : slots' ≡ slots
-
     -- the page is being saved
     pub record IsCopied (job : JobValue S) : Type 0 where
       pub saving : StartsSaving vpn job old new slots slots'
@@ -104,11 +96,10 @@ module _ {S : Type 0} where
       pub slots_stay : slots' ≡ slots
 
     -- what a look at a page comes to, by its answer
-    abbrev pub Looks : {L : Type 0} → Looked L S → Type 0
+    abbrev pub Looks : Looked S → Type 0
     Looks NotLeaving = (is_leaving_at old vpn ≡ false) × StaysAll
     Looks NotYet = IsNotYet
     Looks Freed = IsDropped
     Looks (Dirty job) = IsCopied job
     Looks NoSlot = LacksAndReturns
     Looks (NotRestored reason) = LacksAndLeaves reason
-    Looks (HandedBack frame) = IsHandedBack frame

@@ -1,5 +1,5 @@
 -- An ended process gives everything back: its entries in the list, its frames and its slots.
-use Rattle.std.specs.Prelude.{◌≡◌, ◌⊎◌, ℕ, ◌+◌, ◌++◌, ◌^◌, ◌<◌, ◌==◌, ◌||◌, Bool, true, not, cond, is_some, length, List, [], ◌∷◌, Option, Some, None, if◌then◌else◌}
+use Rattle.std.specs.Prelude.{◌≡◌, ◌⊎◌, ℕ, ◌+◌, ◌++◌, ◌^◌, ◌<◌, ◌==◌, Bool, true, not, cond, is_some, length, List, [], ◌∷◌, Option, Some, None, if◌then◌else◌}
 use Rattle.clock_policy.specs.ClockPro.{purged}
 use Rattle.frame_pool.specs.FrameValue.{FrameValue}
 use Rattle.swap_slots.specs.PoolValue.{PoolValue}
@@ -22,13 +22,12 @@ abbrev pub as_list : {A : Type 0} → Option A → List A
 as_list None = []
 as_list (Some a) = a ∷ []
 
--- a frame comes free, if there is one, or is handed back where all of the pager's are free
-abbrev pub FreesAnyFrame : Option FrameValue → Option FrameValue → PagerState → PagerState → Type 0
-FreesAnyFrame frame None old new = new ≡ record old { free = old.free ++ as_list frame }
-FreesAnyFrame frame (Some back) old new = (frame ≡ Some back) × ((length old.free ≡ old.size) × (new ≡ old))
+-- a frame comes free, if there is one
+abbrev pub FreesAnyFrame : Option FrameValue → PagerState → PagerState → Type 0
+FreesAnyFrame frame old new = new ≡ record old { free = old.free ++ as_list frame }
 
 module _ {S : Type 0} where
-  -- the same of a slot and its pool
+  -- a slot comes into its pool, if there is one, or is handed back where all of the pool's are there
   abbrev pub Pools : Option S → Option S → PoolValue S → PoolValue S → Type 0
   Pools slot None old new = new ≡ record old { free = old.free ++ as_list slot }
   Pools slot (Some back) old new = (slot ≡ Some back) × ((length old.free ≡ old.size) × (new ≡ old))
@@ -45,14 +44,13 @@ module _ {S : Type 0} where
       else Some NotEnded
 
   -- Some pages gave back what they had: the frames are free, behind those that were, and the slots are in the pool behind those that were: they are all that
-  -- the pages below a number had to give, by rising number. A frame and a slot that were handed back are of these pages too. No table goes, and what is
-  -- reserved stays.
-  pub record GivesSome (frame : Option FrameValue) (slot : Option S) (pager pager' : PagerState) (pool pool' : PoolValue S) (old new : SpaceValue S) : Type 0 where
+  -- the pages below a number had to give, by rising number. A slot that was handed back is of these pages too. No table goes, and what is reserved stays.
+  pub record GivesSome (slot : Option S) (pager pager' : PagerState) (pool pool' : PoolValue S) (old new : SpaceValue S) : Type 0 where
     pub frames : List FrameValue
     pub slots : List S
     pub pager_is : pager' ≡ record pager { free = pager.free ++ frames }
     pub pool_is : pool' ≡ record pool { free = pool.free ++ slots }
-    pub framed : (test : ℕ → Bool) → frames_where test frames + (cond (frame_passes test frame) 1 0 + frames_in new test) ≡ frames_in old test
+    pub framed : (test : ℕ → Bool) → frames_where test frames + frames_in new test ≡ frames_in old test
     pub slotted : length slots + (cond (is_some slot) 1 0 + slots_within new.memory) ≡ slots_within old.memory
     pub named : GivesBelow (with_slot slots slot) old.memory new.memory
     pub tabled : SameTablesIn old.memory new.memory
@@ -65,12 +63,10 @@ module _ {S : Type 0} where
   abbrev pub GivesAll : SpaceValue S → SpaceValue S → Type 0
   GivesAll old new = MovesMemory moving.GivesAll old new
 
-  -- a frame or a slot was handed back: the frame since all of the pager's are free, the slot since all of its pool's are there
-  pub record StopsGiving (frame : Option FrameValue) (slot : Option S) (pager pager' : PagerState) (pool pool' : PoolValue S) (old new : SpaceValue S) : Type 0 where
-    pub some : is_some frame || is_some slot ≡ true
-    pub gave : GivesSome frame slot pager pager' pool pool' old new
-    pub frame_full : is_some frame ≡ true → length pager'.free ≡ pager'.size
-    pub slot_full : is_some slot ≡ true → length pool'.free ≡ pool'.size
+  -- a slot was handed back, since all of its pool's are there
+  pub record StopsGiving (slot : S) (pager pager' : PagerState) (pool pool' : PoolValue S) (old new : SpaceValue S) : Type 0 where
+    pub gave : GivesSome (Some slot) pager pager' pool pool' old new
+    pub full : length pool'.free ≡ pool'.size
     pub caches : EmptiesCaches old.memory new.memory
 
   -- the pages' frames are free, and their slots in the pool, by rising number of their pages
@@ -85,9 +81,9 @@ module _ {S : Type 0} where
     pub gives : GivesAll old new
 
   -- all pages are asked for what they have
-  abbrev pub GivesAllBack : Option (Option FrameValue × Option S) → PagerState → PagerState → PoolValue S → PoolValue S → SpaceValue S → SpaceValue S → Type 0
+  abbrev pub GivesAllBack : Option S → PagerState → PagerState → PoolValue S → PoolValue S → SpaceValue S → SpaceValue S → Type 0
   GivesAllBack None pager pager' pool pool' old new = GivesToPools pager pager' pool pool' old new
-  GivesAllBack (Some left) pager pager' pool pool' old new = StopsGiving left.0 left.1 pager pager' pool pool' old new
+  GivesAllBack (Some slot) pager pager' pool pool' old new = StopsGiving slot pager pager' pool pool' old new
 
   -- the process has given everything back, its slots by rising number of their pages, and the list has none of its pages
   pub record PurgesAll (pager pager' : PagerSideValue) (process process' : SpaceValue S) (pool pool' : PoolValue S) : Type 0 where
@@ -109,13 +105,13 @@ module _ {S : Type 0} where
     pub process_stays : process' ≡ process
     pub pool_stays : pool' ≡ pool
 
-  -- it stops at a page whose frame or slot is handed back; the list is as it was
-  pub record StopsPurging (frame : Option FrameValue) (slot : Option S) (pager pager' : PagerSideValue) (process process' : SpaceValue S) (pool pool' : PoolValue S) : Type 0 where
+  -- it stops at a page whose slot is handed back; the list is as it was
+  pub record StopsPurging (slot : S) (pager pager' : PagerSideValue) (process process' : SpaceValue S) (pool pool' : PoolValue S) : Type 0 where
     pub allowed : purge_bars process ≡ None
     pub pager_is : pager' ≡ record pager { pager = pager'.pager }
-    pub stops : StopsGiving frame slot pager.pager pager'.pager pool pool' process process'
+    pub stops : StopsGiving slot pager.pager pager'.pager pool pool' process process'
 
-  abbrev pub Purges : {L : Type 0} → PagerSideValue → PagerSideValue → SpaceValue S → SpaceValue S → PoolValue S → PoolValue S → Purging L S → Type 0
+  abbrev pub Purges : PagerSideValue → PagerSideValue → SpaceValue S → SpaceValue S → PoolValue S → PoolValue S → Purging S → Type 0
   Purges pager pager' process process' pool pool' Done = PurgesAll pager pager' process process' pool pool'
   Purges pager pager' process process' pool pool' (Refused reason) = DoesNotPurge reason pager pager' process process' pool pool'
-  Purges pager pager' process process' pool pool' (HandedBack frame slot) = StopsPurging frame slot pager pager' process process' pool pool'
+  Purges pager pager' process process' pool pool' (HandedBack slot) = StopsPurging slot pager pager' process process' pool pool'

@@ -15,15 +15,14 @@ use Rattle.machine_sides.specs.declared.saving_back.SaveFailure.TheVariants.{Mis
 use Rattle.machine_sides.specs.declared.saving_back.SaveEnd.{SaveEnd}
 use Rattle.machine_sides.specs.declared.saving_back.SaveEnd.TheVariants as end
 use Rattle.machine_sides.specs.declared.saving_back.SaveOutcome.{SaveOutcome}
-use Rattle.machine_sides.specs.declared.saving_back.SaveOutcome.TheVariants.{Freed, HandedBack, WrongPage, ResidentAgain, NotRestored}
+use Rattle.machine_sides.specs.declared.saving_back.SaveOutcome.TheVariants.{Freed, WrongPage, ResidentAgain, NotRestored}
 use Rattle.machine_sides.specs.Returning.{ComesBack, DoesNotList}
 use Rattle.machine_sides.specs.Sides.{PagerSideValue, MovesMemory}
 use Rattle.machine_sides.specs.Together.{key_of}
 
 -- the frame of a page that was saved is free, and counted
-pub record FreesFrame (frame : FrameValue) (old new : PagerSideValue) : Type 0 where
-  pub room : length old.pager.free ≢ old.pager.size
-  pub freed : new ≡ record old { pager = record old.pager { free = old.pager.free ++ frame ∷ [] }; saves = tallied old.saves }
+abbrev pub FreesFrame : FrameValue → PagerSideValue → PagerSideValue → Type 0
+FreesFrame frame old new = new ≡ record old { pager = record old.pager { free = old.pager.free ++ frame ∷ [] }; saves = tallied old.saves }
 
 module _ {S : Type 0} where
   -- whether the page of a number is being saved, whatever the number
@@ -57,12 +56,6 @@ module _ {S : Type 0} where
         pub settles : Settles (SavedAway job frame) process process'
         pub frees : FreesFrame frame pager pager'
 
-      -- the page is in its slot, and its frame is not the pager's, of which all are free
-      pub record IsHandedBack (frame : FrameValue) : Type 0 where
-        pub settles : Settles (SavedAway job frame) process process'
-        pub full : length pager.pager.free ≡ pager.pager.size
-        pub stays : pager' ≡ pager
-
       -- no save of this page is out in the process
       pub record IsOfNoPage (back : SavedValue S) : Type 0 where
         pub back_is : back ≡ job
@@ -82,9 +75,8 @@ module _ {S : Type 0} where
         pub unlisted : DoesNotList (key_of process.memory.process job.vpn) pager pager' refusal
 
     -- a save comes back to the pager and its process
-    abbrev pub EndsSave : {L : Type 0} → PagerSideValue → PagerSideValue → SpaceValue S → SpaceValue S → SaveOutcome L S → Type 0
+    abbrev pub EndsSave : PagerSideValue → PagerSideValue → SpaceValue S → SpaceValue S → SaveOutcome S → Type 0
     EndsSave pager pager' process process' Freed = IsFreed pager pager' process process'
-    EndsSave pager pager' process process' (HandedBack frame) = IsHandedBack pager pager' process process' frame
     EndsSave pager pager' process process' (WrongPage back) = IsOfNoPage pager pager' process process' back
     EndsSave pager pager' process process' (ResidentAgain failure) = FailsAndReturns pager pager' process process' failure
     EndsSave pager pager' process process' (NotRestored failure refusal) = FailsAndLeaves pager pager' process process' failure refusal

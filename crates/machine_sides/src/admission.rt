@@ -121,26 +121,18 @@ fn pager_refusal(refusal: AdmitRefusal) -> NotAdmitted
 }
 
 /// Takes an admission back: its frame comes free, and its page is withdrawn from the list unless it is resident by now.
-///
-/// Where all frames of the pager are free, the frame is another pager's, and is handed back.
 #[tactic(auto, using(crate::proofs::Agreements::undone_settles))]
 pub fn undo<L: Ledger, S: SwapSlot, C: Clock>(
     pager: &mut PagerSide<L, C>,
     process: &Space<L, S>,
     admission: Admission<L>,
-) -> Result<(), Frame<L>>
+)
     ensures list { pager.new.pager.list ≡ taken_back
         (is_resident_at process.now admission.key.vpn) admission.key pager.old.pager.list }
-    ensures freed { OnOk result (pager.new ≡ record pager.old {
+    ensures freed { pager.new ≡ record pager.old {
       pager = record pager.old.pager
           { list = pager.new.pager.list; free = pager.old.pager.free ++ admission.frame ∷ [] };
-    }) }
-    ensures full { IsErr result ↔ (length pager.old.pager.free ≡ pager.old.pager.size) }
-    ensures handed_back { IfErr result (λ back. back ≡ admission.frame) }
-    ensures kept { OnErr result (pager.new ≡ record pager.old {
-      pager = record pager.old.pager
-          { list = pager.new.pager.list };
-    }) }
+    } }
     ensures agree { AgreeStill None pager.old.pager pager.new.pager process.now
         process.now }
     ensures settled { is_resident_at process.now admission.key.vpn ≡ false →
@@ -154,19 +146,13 @@ fn withdraw_and_free<L: Ledger, S: SwapSlot, C: Clock>(
     pager: &mut PagerSide<L, C>,
     process: &Space<L, S>,
     admission: Admission<L>,
-) -> Result<(), Frame<L>>
+)
     ensures list { pager.new.pager.list ≡ taken_back
         (is_resident_at process.now admission.key.vpn) admission.key pager.old.pager.list }
-    ensures freed { OnOk result (pager.new ≡ record pager.old {
+    ensures freed { pager.new ≡ record pager.old {
       pager = record pager.old.pager
           { list = pager.new.pager.list; free = pager.old.pager.free ++ admission.frame ∷ [] };
-    }) }
-    ensures full { IsErr result ↔ (length pager.old.pager.free ≡ pager.old.pager.size) }
-    ensures handed_back { IfErr result (λ back. back ≡ admission.frame) }
-    ensures kept { OnErr result (pager.new ≡ record pager.old {
-      pager = record pager.old.pager
-          { list = pager.new.pager.list };
-    }) }
+    } }
     ensures lawful { Lawful pager.old.pager.list }
 {
     // A question shows that the list is lawful, so that its entry of the page is the only one.
@@ -175,5 +161,5 @@ fn withdraw_and_free<L: Ledger, S: SwapSlot, C: Clock>(
     if !is_resident(process, key.vpn) {
         let _ = pager.pager.withdraw(key);
     }
-    pager.pager.free(frame)
+    pager.pager.put_back(frame);
 }

@@ -5,7 +5,7 @@ ghost use Rattle.std.specs.Prelude.{OnErr};
 ghost use Rattle.pager_core.specs.Pager.{tallied};
 ghost use Rattle.paged_memory.specs.Paged.{memory_of};
 ghost use Rattle.machine_sides.specs.Agreeing.{AgreeStill};
-ghost use Rattle.machine_sides.specs.Collecting.{is_leaving_at, Finds, Looks};
+ghost use Rattle.machine_sides.specs.Collecting.{is_leaving_at, Finds, FreesDropped, Looks};
 
 use crate::pager_side::PagerSide;
 use crate::places::state;
@@ -21,7 +21,7 @@ use swap_slots::{SlotPool, SwapSlot};
 
 /// What came of a look at a page that is to leave its frame.
 #[derive(Drop)]
-pub enum Looked<L: Ledger, S: SwapSlot> {
+pub enum Looked<S: SwapSlot> {
     /// The page is not leaving.
     NotLeaving,
     /// A cache holds a translation to its frame still.
@@ -34,9 +34,6 @@ pub enum Looked<L: Ledger, S: SwapSlot> {
     NoSlot,
     /// The same, but the list did not take it back: it is leaving still.
     NotRestored(Refusal),
-    /// It was unchanged and has left its frame. All frames of the pager are free, so that its frame is another pager's, and
-    /// is handed back.
-    HandedBack(Frame<L>),
 }
 
 /// Looks whether a page that is leaving can let its frame go: no cache may hold a translation of it. An unchanged page
@@ -48,7 +45,7 @@ pub fn collect<L: Ledger, S: SwapSlot, C: Clock>(
     process: &mut Space<L, S>,
     vpn: u32,
     slots: &mut SlotPool<S>,
-) -> Looked<L, S>
+) -> Looked<S>
     ensures looked { Looks vpn pager.old pager.new process.old process.new slots.old slots.new
         result }
     ensures agree { AgreeStill None pager.old.pager pager.new.pager process.old
@@ -65,7 +62,7 @@ fn look_at_page<L: Ledger, S: SwapSlot, C: Clock>(
     process: &mut Space<L, S>,
     vpn: u32,
     slots: &mut SlotPool<S>,
-) -> Looked<L, S>
+) -> Looked<S>
     ensures looked { Looks vpn pager.old pager.new process.old process.new slots.old slots.new
         result }
     ensures memory { S.honest → memory_of S.content process.new.memory ≡
@@ -74,10 +71,10 @@ fn look_at_page<L: Ledger, S: SwapSlot, C: Clock>(
     match look(process, vpn, slots, &mut pager.room) {
         Collected::NotLeaving => Looked::NotLeaving,
         Collected::NotYet => Looked::NotYet,
-        Collected::Clean(frame) => match pager.free_dropped(frame) {
-            Ok(()) => Looked::Freed,
-            Err(frame) => Looked::HandedBack(frame),
-        },
+        Collected::Clean(frame) => {
+            pager.free_dropped(frame);
+            Looked::Freed
+        }
         Collected::Dirty(job) => Looked::Dirty(job),
         Collected::NoSlot => match bring_back(pager, process, vpn) {
             Ok(()) => Looked::NoSlot,
@@ -87,20 +84,12 @@ fn look_at_page<L: Ledger, S: SwapSlot, C: Clock>(
 }
 
 impl<L: Ledger, C: Clock> PagerSide<L, C> {
-    /// Gives back the frame of a page that was dropped, and counts it. Where all are there, the frame is handed back.
-    pub(crate) fn free_dropped(&mut self, frame: Frame<L>) -> Result<(), Frame<L>>
-        ensures full { IsErr result ↔ (length self.old.pager.free ≡ self.old.pager.size) }
-        ensures ok { OnOk result (self.new ≡ record self.old {
-          pager = record self.old.pager
-              { free = self.old.pager.free ++ frame ∷ [] };
-          drops = tallied self.old.drops;
-        }) }
-        ensures handed_back { IfErr result (λ back. back ≡ frame) }
-        ensures err { OnErr result (self.new ≡ self.old) }
+    /// Gives back the frame of a page that was dropped, and counts it.
+    pub(crate) fn free_dropped(&mut self, frame: Frame<L>)
+        ensures { FreesDropped frame self.old self.new }
     {
-        self.pager.free(frame)?;
+        self.pager.put_back(frame);
         self.drops = tally(self.drops);
-        Ok(())
     }
 }
 

@@ -8,7 +8,7 @@ ghost use Rattle.clock_policy.specs.Bound.{answers_left, NothingResident};
 ghost use Rattle.pager_core.specs.Pager.{full_pager, tallied};
 
 use clock_policy::{Clock, EntryKind, Key};
-use frame_pool::{Frame, PoolError};
+use frame_pool::PoolError;
 use pager_core::{Counts, Pager};
 use std::alloc::{AllocError, Global};
 use std::marker::Model;
@@ -103,10 +103,9 @@ impl<L: Ledger, C: Clock> PagerSide<L, C> {
         self.pager.size()
     }
 
-    /// Gives up the pager: its free frames, and a share with the ledger's one part that is no frame's, to gather them with.
-    pub fn into_frames(self) -> (Vec<Frame<L>>, Share<L>)
-        ensures frames { result.0.items ≡ self.pager.free }
-        ensures share { result.1.parts ≡ 1 }
+    /// Gives up the pager and its free frames. Its share has one part for each, and the pager's own.
+    pub fn give_up(self) -> Share<L>
+        ensures { result.parts ≡ length self.pager.free + 1 }
     {
         let PagerSide {
             pager,
@@ -114,7 +113,7 @@ impl<L: Ledger, C: Clock> PagerSide<L, C> {
             drops: _,
             room: _,
         } = self;
-        pager.into_frames()
+        pager.give_up()
     }
 }
 

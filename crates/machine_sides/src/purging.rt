@@ -27,17 +27,14 @@ pub enum PurgeRefusal {
 
 /// What came of the pages of an ended process.
 #[derive(Drop)]
-pub enum Purging<L: Ledger, S: SwapSlot> {
+pub enum Purging<S: SwapSlot> {
     /// The process has given everything back.
     Done,
     /// Nothing has changed.
     Refused(PurgeRefusal),
-    /// All frames of the pager are free, or all slots are in their pool: what the last page gave is another's, and comes back.
-    /// The list is as it was, and pages that are left go on with the next call.
-    HandedBack {
-        frame: Option<Frame<L>>,
-        slot: Option<S>,
-    },
+    /// All slots are in their pool: the slot that the last page gave is another pool's, and comes back. The list is as it
+    /// was, and pages that are left go on with the next call.
+    HandedBack(S),
 }
 
 /// An ended process gives its frames and slots back, and the list forgets its pages.
@@ -46,7 +43,7 @@ pub fn purge<L: Ledger, S: SwapSlot, C: Clock>(
     pager: &mut PagerSide<L, C>,
     process: &mut Space<L, S>,
     slots: &mut SlotPool<S>,
-) -> Purging<L, S>
+) -> Purging<S>
     ensures purges { Purges pager.old pager.new process.old process.new slots.old slots.new result }
     ensures agree { AgreesPurged pager.old.pager pager.new.pager process.old
         process.new result }
@@ -59,15 +56,15 @@ fn give_back_and_forget<L: Ledger, S: SwapSlot, C: Clock>(
     pager: &mut PagerSide<L, C>,
     process: &mut Space<L, S>,
     slots: &mut SlotPool<S>,
-) -> Purging<L, S>
+) -> Purging<S>
     ensures { Purges pager.old pager.new process.old process.new slots.old slots.new result }
 {
     if let Some(refusal) = purge_bars(process) {
         return Purging::Refused(refusal);
     }
     let left = give_all_back(&mut pager.pager, process, slots);
-    if let Some((frame, slot)) = left {
-        return Purging::HandedBack { frame, slot };
+    if let Some(slot) = left {
+        return Purging::HandedBack(slot);
     }
     pager.pager.purge(process.process());
     process.mark_purged();
@@ -99,12 +96,12 @@ fn is_saving<L: Ledger, S: SwapSlot>(space: &Space<L, S>) -> bool
     space.is_saving()
 }
 
-/// The pages of an ended process give back what they have, until the pager or the pool does not take it.
+/// The pages of an ended process give back what they have, until the pool does not take a slot.
 fn give_all_back<L: Ledger, S: SwapSlot, C: Clock>(
     pager: &mut Pager<L, C>,
     space: &mut Space<L, S>,
     slots: &mut SlotPool<S>,
-) -> Option<(Option<Frame<L>>, Option<S>)>
+) -> Option<S>
     requires { IsSome space.old.running.ending }
     ensures { GivesAllBack result pager.old pager.new slots.old slots.new space.old space.new }
 {
@@ -112,25 +109,21 @@ fn give_all_back<L: Ledger, S: SwapSlot, C: Clock>(
     while let Some((given, next)) = space.take_from(from) {
         from = next;
         let (frame, slot) = given;
-        let frame = free_frame(pager, frame);
-        let slot = pool_slot(slots, slot);
-        if frame.is_some() || slot.is_some() {
-            return Some((frame, slot));
+        free_frame(pager, frame);
+        let left = pool_slot(slots, slot);
+        if left.is_some() {
+            return left;
         }
     }
     None
 }
 
-/// A frame comes free, or is handed back where all of the pager's are free.
-fn free_frame<L: Ledger, C: Clock>(
-    pager: &mut Pager<L, C>,
-    frame: Option<Frame<L>>,
-) -> Option<Frame<L>>
-    ensures { FreesAnyFrame frame result pager.old pager.new }
+/// A frame comes free, if there is one.
+fn free_frame<L: Ledger, C: Clock>(pager: &mut Pager<L, C>, frame: Option<Frame<L>>)
+    ensures { FreesAnyFrame frame pager.old pager.new }
 {
-    match frame {
-        Some(frame) => pager.free(frame).err(),
-        None => None,
+    if let Some(frame) = frame {
+        pager.put_back(frame);
     }
 }
 

@@ -27,11 +27,9 @@ pub enum SaveFailure {
 
 /// What came of a save that comes back.
 #[derive(Drop)]
-pub enum SaveOutcome<L: Ledger, S: SwapSlot> {
+pub enum SaveOutcome<S: SwapSlot> {
     /// The page is in its slot, and its frame is free.
     Freed,
-    /// The page is in its slot. All frames of the pager are free, so that its frame is another pager's, and is handed back.
-    HandedBack(Frame<L>),
     /// The process has no such page that is being saved. Nothing has changed, and the job comes back.
     WrongPage(SavedJob<S>),
     /// The save failed, and the page is resident again, as a changed one.
@@ -52,7 +50,7 @@ pub fn saved<L: Ledger, S: SwapSlot, C: Clock>(
     pager: &mut PagerSide<L, C>,
     process: &mut Space<L, S>,
     job: SavedJob<S>,
-) -> SaveOutcome<L, S>
+) -> SaveOutcome<S>
     ensures ends { EndsSave job pager.old pager.new process.old process.new result }
     ensures agree { AgreeStill None pager.old.pager pager.new.pager process.old
         process.new }
@@ -67,17 +65,17 @@ fn settle_save<L: Ledger, S: SwapSlot, C: Clock>(
     pager: &mut PagerSide<L, C>,
     process: &mut Space<L, S>,
     job: SavedJob<S>,
-) -> SaveOutcome<L, S>
+) -> SaveOutcome<S>
     ensures ends { EndsSave job pager.old pager.new process.old process.new result }
     ensures memory { S.honest → memory_of S.content process.new.memory ≡
         memory_of S.content process.old.memory }
 {
     let vpn = job.vpn();
     match end_save(process, job, &mut pager.room) {
-        SaveEnd::Passed(frame) => match pager.free_saved(frame) {
-            Ok(()) => SaveOutcome::Freed,
-            Err(frame) => SaveOutcome::HandedBack(frame),
-        },
+        SaveEnd::Passed(frame) => {
+            pager.free_saved(frame);
+            SaveOutcome::Freed
+        }
         SaveEnd::WrongPage(job) => SaveOutcome::WrongPage(job),
         SaveEnd::Failed(failure) => match bring_back(pager, process, vpn) {
             Ok(()) => SaveOutcome::ResidentAgain(failure),
@@ -132,18 +130,11 @@ fn end_save<L: Ledger, S: SwapSlot>(
 }
 
 impl<L: Ledger, C: Clock> PagerSide<L, C> {
-    /// The frame of a page that was saved comes free, and is counted. Where all are free it is another pager's, and is
-    /// handed back.
-    fn free_saved(&mut self, frame: Frame<L>) -> Result<(), Frame<L>>
-        ensures freed { OnOk result (FreesFrame frame self.old self.new) }
-        ensures full { IsErr result ↔ (length self.old.pager.free ≡ self.old.pager.size) }
-        ensures handed_back { IfErr result (λ back. back ≡ frame) }
-        ensures err { OnErr result (self.new ≡ self.old) }
+    /// The frame of a page that was saved comes free, and is counted.
+    fn free_saved(&mut self, frame: Frame<L>)
+        ensures { FreesFrame frame self.old self.new }
     {
-        if let Err(frame) = self.pager.free(frame) {
-            return Err(frame);
-        }
+        self.pager.put_back(frame);
         self.saves = tally(self.saves);
-        Ok(())
     }
 }

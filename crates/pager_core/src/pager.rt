@@ -172,11 +172,24 @@ impl<L: Ledger, C: Clock> Pager<L, C> {
         self.list.purge(process)
     }
 
-    /// Gives a frame back.
-    pub fn free(&mut self, frame: Frame<L>)
+    /// Gives a frame back. Where all are there it is another pager's, and is handed back.
+    pub fn free(&mut self, frame: Frame<L>) -> Result<(), Frame<L>>
+        ensures full { IsErr result ↔ (length self.old.free ≡ self.old.size) }
+        ensures ok { OnOk result (self.new ≡ record self.old {
+          free = self.old.free ++
+              frame ∷ [];
+        }) }
+        ensures handed_back { IfErr result (λ back. back ≡ frame) }
+        ensures err { OnErr result (self.new ≡ self.old) }
+    {
+        self.frames.give(frame)
+    }
+
+    /// Gives a frame back, which always has its place.
+    pub fn put_back(&mut self, frame: Frame<L>)
         ensures { self.new ≡ record self.old { free = self.old.free ++ frame ∷ [] } }
     {
-        self.frames.give(frame);
+        self.frames.put_back(frame);
     }
 
     /// What the list knows of a page.
@@ -222,7 +235,7 @@ impl<L: Ledger, C: Clock> Pager<L, C> {
         self.frames.size()
     }
 
-    /// Gives up the pager and its free frames, and tells of how many parts its share is: one for each, and its own.
+    /// Gives up the pager and its free frames. Its share has one part for each, and the pager's own.
     pub fn give_up(self) -> Share<L>
         ensures { result.parts ≡ length self.free + 1 }
     {

@@ -2,22 +2,18 @@
 use Rattle.std.proofs.Common.{is_some, refl, sym, ◌∙◌, arith}
 use Rattle.paged_memory.proofs.GivenLaws.{has_given}
 use Rattle.paged_memory.proofs.NoticesLaws.{empties_harts}
-use Rattle.machine_sides.proofs.PurgeSteps.{none_gave, stopped, all_gave, caches_now, ended_still, first_some, then_some, went_on}
+use Rattle.machine_sides.proofs.PurgeSteps.{none_gave, stopped, all_gave, caches_now, ended_still, went_on}
 use Rattle.machine_sides.proofs.purging.give_all_back.Goals as goal
-use Rattle.machine_sides.proofs.purging.give_all_back.Goals.{then-is_some-via-then-is_some, then-is_some-via-else-is_some+then-is_some-2}
 
 pub loop-given-init : goal.loop-given-init
 loop-given-init g c = record { gave = none_gave c.args.pager.now c.args.slots.now c.args.space.now; given = λ q low. absurd (omega arith); harts = refl }
 
 pub returns-then-is_some : goal.returns-then-is_some
 returns-then-is_some g c =
-    stopped c.in-Some.given c.free_frame-frame.result c.pool_slot-slot.result c.args.pager.now c.loop-given.pager c.free_frame-frame.new.pager c.args.slots.now c.loop-given.slots c.pool_slot-slot.new.slots
-    c.args.space.now c.loop-given.space c.take_from.new.self c.loop-given.invariant.gave c.in-Some.ensures.given c.take_from.ensures.stays c.take_from.ensures.process (c.take_from.ensures.tabled, c.take_from.ensures.reserved) c.free_frame-frame.ensures c.pool_slot-slot.ensures
+    stopped c.in-Some.given c.pool_slot-left.result c.args.pager.now c.loop-given.pager c.free_frame.new.pager c.args.slots.now c.loop-given.slots c.pool_slot-left.new.slots
+    c.args.space.now c.loop-given.space c.take_from.new.self c.loop-given.invariant.gave c.in-Some.ensures.given c.take_from.ensures.stays c.take_from.ensures.process (c.take_from.ensures.tabled, c.take_from.ensures.reserved) c.free_frame.ensures c.pool_slot-left.ensures
     (caches_now c.args.space.now c.loop-given.space c.take_from.new.self c.in-Some.ensures.ended c.loop-given.invariant.harts c.take_from.ensures.caches)
-    (elim c.then-is_some.branch [
-      | then-is_some-via-then-is_some w ↦ first_some c.free_frame-frame.result (is_some c.pool_slot-slot.result) (sym c.is_some.ensures ∙ w.if-is_some.true)
-      | then-is_some-via-else-is_some+then-is_some-2 w ↦ then_some (is_some c.free_frame-frame.result) (is_some c.pool_slot-slot.result) (sym w.is_some-else-is_some.ensures ∙ w.if-is_some-2.true)
-    ])
+    (sym c.is_some.ensures ∙ c.if-is_some.true)
 
 pub loop-given-smaller : goal.loop-given-smaller
 loop-given-smaller g c =
@@ -28,9 +24,9 @@ pub loop-given-preserved : goal.loop-given-preserved
 loop-given-preserved g c =
     let emptied = caches_now c.args.space.now c.loop-given.space c.take_from.new.self c.in-Some.ensures.ended c.loop-given.invariant.harts c.take_from.ensures.caches in
     record {
-      gave = went_on c.in-Some.given c.free_frame-frame.result c.pool_slot-slot.result c.args.pager.now c.loop-given.pager c.free_frame-frame.new.pager c.args.slots.now c.loop-given.slots c.pool_slot-slot.new.slots
-          c.args.space.now c.loop-given.space c.take_from.new.self c.loop-given.invariant.gave c.in-Some.ensures.given c.take_from.ensures.stays c.take_from.ensures.process (c.take_from.ensures.tabled, c.take_from.ensures.reserved) c.free_frame-frame.ensures c.pool_slot-slot.ensures
-          (sym c.is_some.ensures ∙ c.if-is_some.false) (sym c.is_some-else-is_some.ensures ∙ c.if-is_some-2.false);
+      gave = went_on c.in-Some.given c.pool_slot-left.result c.args.pager.now c.loop-given.pager c.free_frame.new.pager c.args.slots.now c.loop-given.slots c.pool_slot-left.new.slots
+          c.args.space.now c.loop-given.space c.take_from.new.self c.loop-given.invariant.gave c.in-Some.ensures.given c.take_from.ensures.stays c.take_from.ensures.process (c.take_from.ensures.tabled, c.take_from.ensures.reserved) c.free_frame.ensures c.pool_slot-left.ensures
+          (sym c.is_some.ensures ∙ c.if-is_some.false);
       given = c.in-Some.ensures.next;
       harts = empties_harts c.args.space.now.memory c.take_from.new.self.memory emptied;
     }

@@ -7,7 +7,7 @@ use Rattle.machine_sides.proofs.purging.give_all_back.Given as goal
 
 abbrev pub invariant-loop-given : goal.invariant-loop-given
 invariant-loop-given g l = record {
-  gave : GivesSome None None l.initial.pager l.pager l.initial.slots l.slots l.initial.space l.space;
+  gave : GivesSome None l.initial.pager l.pager l.initial.slots l.slots l.initial.space l.space;
   given : HasNothingBelow l.from l.space.memory;
   harts : harts_in l.space.memory ≡ harts_in l.initial.space.memory;
 }

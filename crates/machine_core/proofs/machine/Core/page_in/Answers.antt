@@ -1,11 +1,7 @@
 -- The page is one of a process that is there, and the machine stays one.
 use Rattle.std.proofs.Common.{arith}
-use Rattle.machine_core.proofs.PageInEvents.{frames_fit, page_in_machine, page_in_size, page_in_served}
+use Rattle.machine_core.proofs.PageInEvents.{page_in_machine, page_in_size, page_in_served}
 use Rattle.machine_core.proofs.machine.Core.page_in.Goals as goal
-
-pub page_in_at-requires-clause-fits : goal.page_in_at-requires-clause-fits
-page_in_at-requires-clause-fits g c =
-    frames_fit (record { pager = c.self.inside.pager; slots = c.self.inside.slots; processes = c.self.inside.processes.items; jobs = c.self.inside.jobs.items; copies = c.self.inside.copies.items }) c.self.invariant.machine
 
 pub invariant_of-self : goal.invariant_of-self
 invariant_of-self g c = record {

@@ -68,8 +68,7 @@ pub(crate) fn close<L: Ledger, S: SwapSlot, C: Clock, R: Wait>(
     let cleans = told_cleans(crew.ahead, parts.processes.as_slice());
     let (desk, processes) = purged(parts);
     let sound = desk.is_sound();
-    let (pager, _strays) = desk.into_parts();
-    let (whole, share) = gather_all(pager, frames);
+    let (whole, share) = gather_all(desk.into_pager(), frames);
     let told = tell(all_ran(processes, ran), handed, room, statuses);
     let mut viewers = viewers;
     let shown = show_all(rt, viewers.as_mut_slice(), told.published.as_slice());

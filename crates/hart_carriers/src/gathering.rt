@@ -3,7 +3,6 @@
 ghost use Rattle.std.specs.Prelude.{◌≡◌, ◌+◌, ◌≤◌, true};
 
 use clock_policy::Clock;
-use frame_pool::gather;
 use machine_sides::PagerSide;
 use std::sync::ledger::{Ledger, Share};
 
@@ -12,9 +11,10 @@ pub fn gather_frames<L: Ledger, C: Clock>(pager: PagerSide<L, C>) -> (bool, Shar
     ensures whole { result.0 ≡ true → result.1.parts ≡ pager.pager.size + 1 }
     ensures within { result.1.parts ≤ L.parts }
 {
-    let size = pager.size() as usize;
-    let (free, mut all) = pager.into_frames();
-    let whole = free.len() == size;
-    gather(free, &mut all);
-    (whole, all)
+    let whole = pager.counts().pager.free == pager.size() as usize;
+    let mut share = pager.give_up();
+    // For the proof only: a share into which another is merged is within the ledger's parts.
+    let none = share.empty();
+    share.merge(none);
+    (whole, share)
 }

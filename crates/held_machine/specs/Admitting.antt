@@ -1,5 +1,5 @@
 -- A page that is to come in is admitted under both locks, and an admission that is not loaded is undone under both.
-use Rattle.std.specs.Prelude.{◌≡◌, ◌<◌, ◌++◌, [], ◌∷◌, false, length, Option, Some, None, Result, Ok, Err}
+use Rattle.std.specs.Prelude.{◌≡◌, ◌++◌, [], ◌∷◌, false, Option, Some, None, Result, Ok, Err}
 use Rattle.clock_policy.specs.declared.key.Key.{Key}
 use Rattle.machine_sides.specs.Admitting.{AdmissionValue, Admits, DoesNotAdmit, is_resident_at, taken_back}
 use Rattle.machine_sides.specs.Agreeing.{Agree, AgreeStill}
@@ -7,8 +7,6 @@ use Rattle.machine_sides.specs.declared.admission.NotAdmitted.{NotAdmitted}
 use Rattle.held_machine.specs.Answers.{IsOther}
 use Rattle.held_machine.specs.DeskValue.{DeskValue}
 use Rattle.held_process.specs.HeldValue.{HeldValue}
-use Rattle.held_machine.specs.declared.replies.Undone.{Undone}
-use Rattle.held_machine.specs.declared.replies.Undone.TheVariants.{Withdrawn, Stray, OtherProcess}
 
 module _ {S : Type 0} (desk desk' : DeskValue) (held : HeldValue S) where
   module _ (key : Key) where
@@ -39,23 +37,11 @@ module _ {S : Type 0} (desk desk' : DeskValue) (held : HeldValue S) where
       pub agree : AgreeStill None desk.pager.pager desk'.pager.pager held.side held.side
       pub settled : is_resident_at held.side admission.key.vpn ≡ false → Agree desk'.pager.pager held.side admission.key
 
-    -- the same, but all frames of the pager are free, so that the frame is kept beside it
-    pub record UndoesStray : Type 0 where
-      pub process : held.side.memory.process ≡ admission.key.process
-      pub full : length desk.pager.pager.free ≡ desk.pager.pager.size
-      pub list : desk'.pager.pager.list ≡ taken_back (is_resident_at held.side admission.key.vpn) admission.key desk.pager.pager.list
-      pub pager_is : desk'.pager ≡ record desk.pager { pager = record desk.pager.pager { list = desk'.pager.pager.list } }
-      pub sound : desk'.sound ≡ false
-      pub kept : length desk.strays < desk.room → desk'.strays ≡ desk.strays ++ admission.frame ∷ []
-      pub agree : AgreeStill None desk.pager.pager desk'.pager.pager held.side held.side
-      pub settled : is_resident_at held.side admission.key.vpn ≡ false → Agree desk'.pager.pager held.side admission.key
-
     -- the process is another one: no call was made, and the admission comes back
     pub record UndoesNone (back : AdmissionValue) : Type 0 where
       pub other : IsOther admission.key.process desk desk' held held
       pub back_is : back ≡ admission
 
-    abbrev pub UndoesHeld : {L : Type 0} → Undone L → Type 0
-    UndoesHeld Withdrawn = Undoes
-    UndoesHeld Stray = UndoesStray
-    UndoesHeld (OtherProcess back) = UndoesNone back
+    abbrev pub UndoesHeld : Result (Unit {0}) AdmissionValue → Type 0
+    UndoesHeld (Ok done) = Undoes
+    UndoesHeld (Err back) = UndoesNone back

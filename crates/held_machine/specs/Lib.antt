@@ -6,5 +6,4 @@ pub mod SavingBack
 pub mod Admitting
 pub mod Purging
 pub mod Expected
-pub mod Heeding
 pub mod Audit

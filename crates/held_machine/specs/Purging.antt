@@ -1,13 +1,13 @@
 -- An ended process gives its pages back under both locks and the slots'.
-use Rattle.std.specs.Prelude.{◌≡◌, ℕ, ◌<◌, ◌++◌, false, length, Option, Some, None}
-use Rattle.frame_pool.specs.FrameValue.{FrameValue}
-use Rattle.machine_sides.specs.Purging.{PurgesAll, DoesNotPurge, StopsPurging, as_list}
+use Rattle.std.specs.Prelude.{◌≡◌, ℕ, ◌&&◌, Option, Some, None}
+use Rattle.machine_sides.specs.Agreeing.{AgreesPurged}
+use Rattle.machine_sides.specs.Purging.{Purges}
+use Rattle.machine_sides.specs.declared.purging.Purging.{Purging}
 use Rattle.swap_slots.specs.PoolValue.{PoolValue}
-use Rattle.held_machine.specs.Answers.{IsOther, Answers}
+use Rattle.held_machine.specs.Answers.{IsOther}
 use Rattle.held_machine.specs.DeskValue.{DeskValue}
+use Rattle.held_machine.specs.Expected.{is_expected_purge}
 use Rattle.held_process.specs.HeldValue.{HeldValue}
-use Rattle.held_machine.specs.declared.replies.PurgeReply.{PurgeReply}
-use Rattle.held_machine.specs.declared.replies.PurgeReply.TheVariants.{Done, Refused, Stray}
 
 module _ {S : Type 0} (number : ℕ) (desk desk' : DeskValue) (held held' : HeldValue S) (slots slots' : PoolValue S) where
   -- the process is another one: no call was made
@@ -15,18 +15,14 @@ module _ {S : Type 0} (number : ℕ) (desk desk' : DeskValue) (held held' : Held
     pub other : IsOther number desk desk' held held'
     pub slots_stay : slots' ≡ slots
 
-  -- a page gave a frame, or a slot, that came back where no event gives it: the frame is kept beside the pager
-  pub record PurgesStray : Type 0 where
+  -- what was done, in the words of the purge itself
+  pub record DoesPurge (purging : Purging S) : Type 0 where
     pub process : held.side.memory.process ≡ number
-    pub frame : Option FrameValue
-    pub slot : Option S
-    pub stops : StopsPurging frame slot desk.pager desk'.pager held.side held'.side slots slots'
-    pub sound : desk'.sound ≡ false
-    pub kept : length desk.strays < desk.room → desk'.strays ≡ desk.strays ++ as_list frame
+    pub purges : Purges desk.pager desk'.pager held.side held'.side slots slots' purging
+    pub desk_is : desk' ≡ record desk { pager = desk'.pager; sound = desk.sound && is_expected_purge purging }
     pub held_is : held' ≡ record held { side = held'.side }
+    pub agree : AgreesPurged desk.pager.pager desk'.pager.pager held.side held'.side purging
 
-  abbrev pub PurgesHeld : Option PurgeReply → Type 0
+  abbrev pub PurgesHeld : Option (Purging S) → Type 0
   PurgesHeld None = PurgesNone
-  PurgesHeld (Some Done) = Answers number desk desk' held held' held.tries desk.sound (PurgesAll desk.pager desk'.pager held.side held'.side slots slots')
-  PurgesHeld (Some (Refused reason)) = Answers number desk desk' held held' held.tries desk.sound (DoesNotPurge reason desk.pager desk'.pager held.side held'.side slots slots')
-  PurgesHeld (Some Stray) = PurgesStray
+  PurgesHeld (Some purging) = DoesPurge purging

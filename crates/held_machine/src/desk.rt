@@ -1,15 +1,15 @@
 //! What stands under the pager's lock, and the calls on it and a process together.
 
-ghost use Rattle.std.specs.Prelude.{◌≡◌, ◌⊎◌, ◌↔◌, ◌<◌, ◌≤◌, ◌+◌, ◌++◌, ◌&&◌, nat_lt, [], false};
+ghost use Rattle.std.specs.Prelude.{◌≡◌, ◌⊎◌, ◌↔◌, ◌<◌, ◌+◌, ◌&&◌, nat_lt, false};
 ghost use Rattle.std.specs.Prelude.{true, length, IfOk, IsErrOf};
-ghost use Rattle.machine_sides.specs.Purging.{as_list};
 ghost use Rattle.paged_memory.specs.Paged.{memory_of};
 ghost use Rattle.pager_core.specs.Pager.{full_pager};
 ghost use Rattle.held_machine.specs.Expected.{is_memory, is_device};
+ghost use Rattle.held_machine.specs.Expected.{is_expected_look, is_expected_end};
+ghost use Rattle.held_machine.specs.Expected.{is_expected_purge};
 
-use crate::replies::{Collection, PurgeReply, SaveReply, Undone};
 use clock_policy::{Clock, Key, Refusal};
-use frame_pool::{Frame, PoolError};
+use frame_pool::PoolError;
 use held_process::Held;
 use machine_sides::{
     Admission, Looked, NotAdmitted, PagerSide, Purging, SaveFailure, SaveOutcome, Swept,
@@ -20,30 +20,23 @@ use std::marker::Model;
 use std::sync::ledger::{Blank, Ledger};
 use swap_slots::{SlotPool, SwapSlot};
 
-/// A pager, with the frames that came back where no event of the machine gives one, and whether no such thing has happened.
+/// A pager, and whether only what events of the machine give has happened so far.
 #[derive(Drop)]
 pub struct Desk<L: Ledger, C: Clock> {
     pager: PagerSide<L, C>,
-    strays: Vec<Frame<L>>,
     sound: bool,
 }
 
 impl<L: Ledger, C: Clock> Model for Desk<L, C> {
-    ghost use Rattle.std.specs.Prelude.{vec_capacity};
     ghost use Rattle.held_machine.specs.DeskValue.{DeskValue};
 
     ghost Value = { DeskValue };
 
-    ghost view = { λ d. record {
-      pager = d.pager;
-      strays = d.strays.items;
-      room = vec_capacity d.strays;
-      sound = d.sound;
-    } };
+    ghost view = { λ d. record { pager = d.pager; sound = d.sound } };
 }
 
 impl<L: Ledger, C: Clock> Desk<L, C> {
-    ghost use Rattle.held_machine.specs.DeskValue.{KeepsBeside, frames_wanted};
+    ghost use Rattle.held_machine.specs.DeskValue.{frames_wanted};
     ghost use Rattle.held_machine.specs.Sweeping.{SweepsHeld};
     ghost use Rattle.held_machine.specs.Collecting.{CollectsHeld};
     ghost use Rattle.held_machine.specs.SavingBack.{SavesHeld};
@@ -58,16 +51,11 @@ impl<L: Ledger, C: Clock> Desk<L, C> {
         requires one_each { L.parts ≡ frames + 1 }
         ensures pager { IfOk result (λ desk. desk.pager ≡
             record { pager = full_pager frames; saves = 0; drops = 0 }) }
-        ensures strays { IfOk result (λ desk. desk.strays ≡ []) }
-        ensures room { IfOk result (λ desk. frames ≤ desk.room) }
         ensures sound { IfOk result (λ desk. desk.sound ≡ true) }
         ensures bad_size { IsErrOf result PoolError.BadSize ↔ ((frames < 4) ⊎ (4096 < frames)) }
     {
-        let pager = PagerSide::new(alloc, frames, blank)?;
-        let strays = Vec::with_capacity(alloc, frames as usize)?;
         Ok(Desk {
-            pager,
-            strays,
+            pager: PagerSide::new(alloc, frames, blank)?,
             sound: true,
         })
     }
@@ -95,12 +83,11 @@ impl<L: Ledger, C: Clock> Desk<L, C> {
         self.pager.counts().pager.free < wanted as usize
     }
 
-    /// The pager alone, and the frames beside it.
-    pub fn into_parts(self) -> (PagerSide<L, C>, Vec<Frame<L>>)
-        ensures pager { result.0 ≡ self.pager }
-        ensures strays { result.1.items ≡ self.strays }
+    /// The pager, by itself.
+    pub fn into_pager(self) -> PagerSide<L, C>
+        ensures { result ≡ self.pager }
     {
-        (self.pager, self.strays)
+        self.pager
     }
 
     /// Something happened that no event of the machine gives.
@@ -108,14 +95,6 @@ impl<L: Ledger, C: Clock> Desk<L, C> {
         ensures { self.new ≡ record self.old { sound = false } }
     {
         self.sound = false;
-    }
-
-    /// Keeps a frame that came back where no event gives one. It is let go only where memory is wanting for it.
-    fn keep(&mut self, frame: Frame<L>)
-        ensures { KeepsBeside frame self.old self.new }
-    {
-        self.sound = false;
-        let _ = self.strays.push(frame);
     }
 
     /// Asks the list, where the page that it asks for is one of this process.
@@ -138,7 +117,7 @@ impl<L: Ledger, C: Clock> Desk<L, C> {
         held: &mut Held<L, S>,
         key: Key,
         slots: &mut SlotPool<S>,
-    ) -> Option<Collection<S>>
+    ) -> Option<Looked<S>>
         ensures collects { CollectsHeld key self.old self.new held.old held.new slots.old slots.new
             result }
         ensures memory { S.honest → memory_of S.content held.new.side.memory ≡
@@ -149,7 +128,8 @@ impl<L: Ledger, C: Clock> Desk<L, C> {
             return None;
         }
         let looked = held_process::collect(&mut self.pager, held, key.vpn, slots);
-        Some(self.heed_look(looked))
+        self.stay_sound_if(is_expected_look(&looked));
+        Some(looked)
     }
 
     /// Ends the save of a page of this process.
@@ -158,7 +138,7 @@ impl<L: Ledger, C: Clock> Desk<L, C> {
         &mut self,
         held: &mut Held<L, S>,
         job: SavedJob<S>,
-    ) -> Option<SaveReply<S>>
+    ) -> Option<SaveOutcome<S>>
         ensures saves { SavesHeld job self.old self.new held.old held.new result }
         ensures memory { S.honest → memory_of S.content held.new.side.memory ≡
             memory_of S.content held.old.side.memory }
@@ -168,7 +148,8 @@ impl<L: Ledger, C: Clock> Desk<L, C> {
             return None;
         }
         let outcome = held_process::saved(&mut self.pager, held, job);
-        Some(self.heed_save(outcome))
+        self.stay_sound_if(is_expected_end(&outcome));
+        Some(outcome)
     }
 
     /// Lists an absent page of this process, and takes the frame that it is to have.
@@ -186,21 +167,20 @@ impl<L: Ledger, C: Clock> Desk<L, C> {
         Some(machine_sides::admit(&mut self.pager, held.side(), key))
     }
 
-    /// Takes an admission of a page of this process back.
-    pub fn undo<S: SwapSlot>(&mut self, held: &Held<L, S>, admission: Admission<L>) -> Undone<L>
+    /// Takes an admission of a page of this process back. It comes back where the process is another one.
+    pub fn undo<S: SwapSlot>(
+        &mut self,
+        held: &Held<L, S>,
+        admission: Admission<L>,
+    ) -> Result<(), Admission<L>>
         ensures { UndoesHeld self.old self.new held.now admission result }
     {
         if held.process() != admission.key().process {
             self.mark_unsound();
-            return Undone::OtherProcess(admission);
+            return Err(admission);
         }
-        match machine_sides::undo(&mut self.pager, held.side(), admission) {
-            Ok(()) => Undone::Withdrawn,
-            Err(frame) => {
-                self.keep(frame);
-                Undone::Stray
-            }
-        }
+        machine_sides::undo(&mut self.pager, held.side(), admission);
+        Ok(())
     }
 
     /// The process of this number, which has ended, gives its frames and slots back, and the list forgets its pages.
@@ -209,72 +189,16 @@ impl<L: Ledger, C: Clock> Desk<L, C> {
         held: &mut Held<L, S>,
         number: u32,
         slots: &mut SlotPool<S>,
-    ) -> Option<PurgeReply>
+    ) -> Option<Purging<S>>
         ensures { PurgesHeld number self.old self.new held.old held.new slots.old slots.new result }
     {
         if held.process() != number {
             self.mark_unsound();
             return None;
         }
-        match held_process::purge(&mut self.pager, held, slots) {
-            Purging::Done => Some(PurgeReply::Done),
-            Purging::Refused(reason) => Some(PurgeReply::Refused(reason)),
-            Purging::HandedBack { frame, slot: _ } => {
-                self.keep_any(frame);
-                Some(PurgeReply::Stray)
-            }
-        }
-    }
-}
-
-impl<L: Ledger, C: Clock> Desk<L, C> {
-    ghost use Rattle.held_machine.specs.Heeding.{HeedsLook, HeedsSave};
-
-    /// What a look at a page comes to, once a frame that came back is kept.
-    fn heed_look<S: SwapSlot>(&mut self, looked: Looked<L, S>) -> Collection<S>
-        ensures { HeedsLook looked self.old self.new result }
-    {
-        match looked {
-            Looked::NotLeaving => Collection::NotLeaving,
-            Looked::NotYet => Collection::NotYet,
-            Looked::Freed => Collection::Freed,
-            Looked::Dirty(job) => Collection::Dirty(job),
-            Looked::NoSlot => Collection::NoSlot,
-            Looked::NotRestored(refusal) => {
-                self.stay_sound_if(is_memory(refusal));
-                Collection::NotRestored(refusal)
-            }
-            Looked::HandedBack(frame) => {
-                self.keep(frame);
-                Collection::Stray
-            }
-        }
-    }
-
-    /// What a save that comes back comes to, once a frame that came back is kept.
-    fn heed_save<S: SwapSlot>(&mut self, outcome: SaveOutcome<L, S>) -> SaveReply<S>
-        ensures { HeedsSave outcome self.old self.new result }
-    {
-        match outcome {
-            SaveOutcome::Freed => SaveReply::Freed,
-            SaveOutcome::HandedBack(frame) => {
-                self.keep(frame);
-                SaveReply::Stray
-            }
-            SaveOutcome::WrongPage(job) => {
-                self.mark_unsound();
-                SaveReply::WrongPage(job)
-            }
-            SaveOutcome::ResidentAgain(failure) => {
-                self.stay_sound_if(is_device(failure));
-                SaveReply::ResidentAgain(failure)
-            }
-            SaveOutcome::NotRestored { failure, refusal } => {
-                self.stay_sound_if(is_device(failure));
-                self.stay_sound_if(is_memory(refusal));
-                SaveReply::NotRestored { failure, refusal }
-            }
-        }
+        let purging = held_process::purge(&mut self.pager, held, slots);
+        self.stay_sound_if(is_expected_purge(&purging));
+        Some(purging)
     }
 
     /// The machine stays sound only where this holds.
@@ -283,19 +207,6 @@ impl<L: Ledger, C: Clock> Desk<L, C> {
     {
         if !expected {
             self.sound = false;
-        }
-    }
-
-    /// Keeps a frame that came back where no event gives one, if there is one.
-    fn keep_any(&mut self, frame: Option<Frame<L>>)
-        ensures pager { self.new.pager ≡ self.old.pager }
-        ensures sound { self.new.sound ≡ false }
-        ensures kept { length self.old.strays < self.old.room →
-            self.new.strays ≡ self.old.strays ++ as_list frame }
-    {
-        match frame {
-            Some(frame) => self.keep(frame),
-            None => self.mark_unsound(),
         }
     }
 }
@@ -312,4 +223,37 @@ fn is_device(failure: SaveFailure) -> bool
     ensures { result ≡ is_device failure }
 {
     matches!(failure, SaveFailure::Device)
+}
+
+/// Whether an event of the machine gives this answer of a look.
+fn is_expected_look<S: SwapSlot>(looked: &Looked<S>) -> bool
+    ensures { result ≡ is_expected_look looked.now }
+{
+    match looked {
+        Looked::NotRestored(refusal) => is_memory(*refusal),
+        Looked::NotLeaving | Looked::NotYet | Looked::Freed | Looked::Dirty(_) | Looked::NoSlot => {
+            true
+        }
+    }
+}
+
+/// Whether an event of the machine gives this end of a save.
+fn is_expected_end<S: SwapSlot>(outcome: &SaveOutcome<S>) -> bool
+    ensures { result ≡ is_expected_end outcome.now }
+{
+    match outcome {
+        SaveOutcome::Freed => true,
+        SaveOutcome::WrongPage(_) => false,
+        SaveOutcome::ResidentAgain(failure) => is_device(*failure),
+        SaveOutcome::NotRestored { failure, refusal } => {
+            is_device(*failure) && is_memory(*refusal)
+        }
+    }
+}
+
+/// Whether an event of the machine gives this answer of a purge.
+fn is_expected_purge<S: SwapSlot>(purging: &Purging<S>) -> bool
+    ensures { result ≡ is_expected_purge purging.now }
+{
+    !matches!(purging, Purging::HandedBack(_))
 }

@@ -7,9 +7,7 @@
 mod audit;
 mod desk;
 mod parts;
-mod replies;
 
 pub use audit::{count_more, is_all};
 pub use desk::Desk;
 pub use parts::Parts;
-pub use replies::{Collection, PurgeReply, SaveReply, Undone};

@@ -90,7 +90,7 @@ module _ {S : Type 0} where
   sweep_leaves pager pager' old new (Asked key bit) h = heeds verdict.GoOn key.vpn h.between new h.heeded ∙ reads bit key.vpn old h.between h.read
   sweep_leaves pager pager' old new (Victim key) h = heeds (verdict.Victim key) key.vpn h.1.between new h.1.heeded ∙ reads h.0 key.vpn old h.1.between h.1.read
 
-  pub look_leaves : {L : Type 0} (vpn : ℕ) (pager pager' : PagerSideValue) (old new : SpaceValue S) (slots slots' : PoolValue S) (looked : Looked L S)
+  pub look_leaves : (vpn : ℕ) (pager pager' : PagerSideValue) (old new : SpaceValue S) (slots slots' : PoolValue S) (looked : Looked S)
       → Looks vpn pager pager' old new slots slots' looked → status_of new ≡ status_of old
   look_leaves vpn pager pager' old new slots slots' look.NotLeaving h = by_same old new h.1.process_stays
   look_leaves vpn pager pager' old new slots slots' look.NotYet h = by_same old new h.stays.process_stays
@@ -98,21 +98,19 @@ module _ {S : Type 0} where
   look_leaves vpn pager pager' old new slots slots' (look.Dirty job) h = by_memory old new h.saving.stays
   look_leaves vpn pager pager' old new slots slots' look.NoSlot h = by_memory old new h.returns.mapped.stays
   look_leaves vpn pager pager' old new slots slots' (look.NotRestored reason) h = by_same old new h.leaves.stays
-  look_leaves vpn pager pager' old new slots slots' (look.HandedBack frame) h = by_memory old new h.drops.stays
 
-  pub save_leaves : {L : Type 0} (job : SavedValue S) (pager pager' : PagerSideValue) (old new : SpaceValue S) (outcome : SaveOutcome L S)
+  pub save_leaves : (job : SavedValue S) (pager pager' : PagerSideValue) (old new : SpaceValue S) (outcome : SaveOutcome S)
       → EndsSave job pager pager' old new outcome → status_of new ≡ status_of old
   save_leaves job pager pager' old new save.Freed h = by_memory old new h.settles.stays
-  save_leaves job pager pager' old new (save.HandedBack frame) h = by_memory old new h.settles.stays
   save_leaves job pager pager' old new (save.WrongPage back) h = by_same old new h.process_stays
   save_leaves job pager pager' old new (save.ResidentAgain failure) h = by_memory h.between new h.returns.mapped.stays ∙ by_memory old h.between h.settles.stays
   save_leaves job pager pager' old new (save.NotRestored failure reason) h = by_memory old new h.settles.stays
 
-  pub purge_leaves : {L : Type 0} (pager pager' : PagerSideValue) (old new : SpaceValue S) (slots slots' : PoolValue S) (outcome : Purging L S)
+  pub purge_leaves : (pager pager' : PagerSideValue) (old new : SpaceValue S) (slots slots' : PoolValue S) (outcome : Purging S)
       → Purges pager pager' old new slots slots' outcome → status_of new ≡ status_of old
   purge_leaves pager pager' old new slots slots' purging.Done h = by_both old new (ap (λ (s : SpaceValue S). s.schedule) h.is) (ap (λ (s : SpaceValue S). length s.running.environment.output) h.is)
   purge_leaves pager pager' old new slots slots' (purging.Refused reason) h = by_same old new h.process_stays
-  purge_leaves pager pager' old new slots slots' (purging.HandedBack frame slot) h = by_memory old new h.stops.gave.stays
+  purge_leaves pager pager' old new slots slots' (purging.HandedBack slot) h = by_memory old new h.stops.gave.stays
 
   pub load_leaves : (held : S → List ℕ) (honest : Type 0) (admission : AdmissionValue) (old new : SpaceValue S) → Loads held honest admission old new → status_of new ≡ status_of old
   load_leaves held honest admission old new h = by_memory old new h.stays

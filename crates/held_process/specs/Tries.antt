@@ -5,18 +5,16 @@ use Rattle.machine_sides.specs.declared.collecting.Looked.TheVariants as look
 use Rattle.machine_sides.specs.declared.saving_back.SaveOutcome.{SaveOutcome}
 use Rattle.machine_sides.specs.declared.saving_back.SaveOutcome.TheVariants as save
 
-abbrev pub look_failed : {L S : Type 0} → Looked L S → Bool
+abbrev pub look_failed : {S : Type 0} → Looked S → Bool
 look_failed look.NotLeaving = false
 look_failed look.NotYet = false
 look_failed look.Freed = false
 look_failed (look.Dirty job) = false
 look_failed look.NoSlot = true
 look_failed (look.NotRestored reason) = false
-look_failed (look.HandedBack frame) = false
 
-abbrev pub save_failed : {L S : Type 0} → SaveOutcome L S → Bool
+abbrev pub save_failed : {S : Type 0} → SaveOutcome S → Bool
 save_failed save.Freed = false
-save_failed (save.HandedBack frame) = false
 save_failed (save.WrongPage job) = false
 save_failed (save.ResidentAgain failure) = true
 save_failed (save.NotRestored failure reason) = false

@@ -38,7 +38,7 @@ pub fn collect<L: Ledger, S: SwapSlot, C: Clock>(
     held: &mut Held<L, S>,
     vpn: u32,
     slots: &mut SlotPool<S>,
-) -> Looked<L, S>
+) -> Looked<S>
     ensures looked { Looks vpn pager.old pager.new held.old.side held.new.side slots.old slots.new
         result }
     ensures agree { AgreeStill None pager.old.pager pager.new.pager held.old.side
@@ -64,7 +64,7 @@ pub fn saved<L: Ledger, S: SwapSlot, C: Clock>(
     pager: &mut PagerSide<L, C>,
     held: &mut Held<L, S>,
     job: SavedJob<S>,
-) -> SaveOutcome<L, S>
+) -> SaveOutcome<S>
     ensures ends { EndsSave job pager.old pager.new held.old.side held.new.side result }
     ensures agree { AgreeStill None pager.old.pager pager.new.pager held.old.side
         held.new.side }
@@ -89,7 +89,7 @@ pub fn purge<L: Ledger, S: SwapSlot, C: Clock>(
     pager: &mut PagerSide<L, C>,
     held: &mut Held<L, S>,
     slots: &mut SlotPool<S>,
-) -> Purging<L, S>
+) -> Purging<S>
     ensures purges { Purges pager.old pager.new held.old.side held.new.side slots.old slots.new
         result }
     ensures agree { AgreesPurged pager.old.pager pager.new.pager held.old.side

@@ -23,8 +23,7 @@ fn take_all<L: Ledger>(rt: &impl Abort, alloc: Global, blank: Blank)
     let last = taken.pop().expect(rt, "a frame");
     assert!(rt; pool.give(last).is_ok());
     assert_eq!(rt; (pool.len(), pool.size()), (1, 4));
-    let (free, mut all) = pool.into_frames();
-    gather(free, &mut all);
+    let mut all = pool.give_up();
     gather(taken, &mut all);
 }
 
@@ -61,7 +60,8 @@ fn copy_one<L: Ledger>(rt: &impl Abort, alloc: Global, blank: Blank)
     assert_eq!(rt; (bare.number(), bare.bytes()[3], copy[3]), (number, 7, 7));
     let frame = Frame::with_room(bare, copy);
     assert_eq!(rt; (frame.bare().number(), frame.bytes()[3]), (number, 7));
-    assert!(rt; pool.give(frame).is_ok());
+    pool.put_back(frame);
+    assert_eq!(rt; pool.len(), 4);
 }
 
 fn refused<L: Ledger>(alloc: Global, size: u32, blank: Blank) -> Option<PoolError>

@@ -13,9 +13,9 @@ ghost use Rattle.reclaim_daemon.specs.Sweeping.{AsksNone};
 use crate::locking::{ROUNDS, lock_held};
 use crate::shared::Shared;
 use clock_policy::{Clock, Key};
-use held_machine::{Collection, Desk, PurgeReply, SaveReply};
+use held_machine::Desk;
 use held_process::Held;
-use machine_sides::Swept;
+use machine_sides::{Looked, Purging, SaveOutcome, Swept};
 use page_store::SavedJob;
 use std::snapshot::Snapshot;
 use std::sync::Wait;
@@ -160,7 +160,7 @@ impl<L: Ledger, S: SwapSlot, C: Clock> Shared<L, S, C> {
         &self,
         rt: &R,
         key: Key,
-    ) -> Option<HoldOfAll<L, S, C, Option<Collection<S>>>>
+    ) -> Option<HoldOfAll<L, S, C, Option<Looked<S>>>>
         ensures none { IsNone result ↔ (self.now.processes ≤ key.process) }
         ensures some { IfSome result (λ hold.
             CollectsHeld key hold.desk.before.value hold.desk.after.value hold.process.before.value
@@ -188,7 +188,7 @@ impl<L: Ledger, S: SwapSlot, C: Clock> Shared<L, S, C> {
         &self,
         rt: &R,
         job: SavedJob<S>,
-    ) -> Option<HoldOfBoth<L, S, C, Option<SaveReply<S>>>>
+    ) -> Option<HoldOfBoth<L, S, C, Option<SaveOutcome<S>>>>
         ensures none { IsNone result ↔ (self.now.processes ≤ job.process) }
         ensures some { IfSome result (λ hold. SavesHeld job hold.desk.before.value
             hold.desk.after.value hold.process.before.value hold.process.after.value hold.reply) }
@@ -217,7 +217,7 @@ impl<L: Ledger, S: SwapSlot, C: Clock> Shared<L, S, C> {
         &self,
         rt: &R,
         number: u32,
-    ) -> Option<HoldOfAll<L, S, C, Option<PurgeReply>>>
+    ) -> Option<HoldOfAll<L, S, C, Option<Purging<S>>>>
         ensures none { IsNone result ↔ (self.now.processes ≤ number) }
         ensures some { IfSome result (λ hold.
             PurgesHeld number hold.desk.before.value hold.desk.after.value
@@ -255,9 +255,6 @@ fn sweep_on<L: Ledger, S: SwapSlot, C: Clock>(
 }
 
 /// Whether a page that was leaving has left its frame, or is resident again.
-fn has_settled<S: SwapSlot>(reply: &Option<Collection<S>>) -> bool {
-    matches!(
-        reply,
-        Some(Collection::Freed) | Some(Collection::NoSlot) | Some(Collection::Stray)
-    )
+fn has_settled<S: SwapSlot>(reply: &Option<Looked<S>>) -> bool {
+    matches!(reply, Some(Looked::Freed) | Some(Looked::NoSlot))
 }

@@ -13,7 +13,7 @@ use crate::gate::Gate;
 use crate::holds::{Change, HoldOfBoth};
 use crate::shared::Shared;
 use clock_policy::{Clock, Key};
-use held_machine::{Desk, Undone};
+use held_machine::Desk;
 use held_process::Held;
 use machine_sides::{Admission, NotAdmitted, is_resident};
 use paged_memory::PageInFault;
@@ -81,7 +81,7 @@ impl<L: Ledger, S: SwapSlot, C: Clock> Shared<L, S, C> {
         &self,
         rt: &R,
         admission: Admission<L>,
-    ) -> Option<HoldOfPager<L, S, C, Undone<L>>>
+    ) -> Option<HoldOfPager<L, S, C, Result<(), Admission<L>>>>
         ensures none { IsNone result ↔ (self.now.processes ≤ admission.key.process) }
         ensures some { IfSome result (λ hold. UndoesHeld hold.desk.before.value
             hold.desk.after.value hold.process.value admission hold.reply) }

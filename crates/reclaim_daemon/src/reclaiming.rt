@@ -15,9 +15,8 @@ use crate::writing_ahead::{Ahead, Rest};
 use crate::writing_out::write_slot;
 use clock_policy::{Clock, Key};
 use flat_machine::KillCause;
-use held_machine::{Collection, SaveReply};
 use machine_limits::{MOST_HARTS, MOST_PROCESSES};
-use machine_sides::Swept;
+use machine_sides::{Looked, SaveOutcome, Swept};
 use page_store::SaveJob;
 use status_cell::{Status, Viewer};
 use std::sync::atomic::AtomicU64;
@@ -213,18 +212,18 @@ fn let_go<L: Ledger, S: SwapSlot, C: Clock, G: Gate, R: Wait>(
         };
         match found {
             // A hart that was started since may have it: it takes notice with its next slice, or now.
-            Collection::NotYet => pause(rt),
-            Collection::Freed => return true,
-            Collection::Dirty(job) => return save(rt, shared, gate, job),
-            Collection::NoSlot => {
+            Looked::NotYet => pause(rt),
+            Looked::Freed => return true,
+            Looked::Dirty(job) => return save(rt, shared, gate, job),
+            Looked::NoSlot => {
                 kill_if_spent(rt, shared.locks(), key.process);
                 return false;
             }
-            Collection::NotRestored(_) => {
+            Looked::NotRestored(_) => {
                 shared.locks().kill(rt, key.process, KillCause::NoMemory);
                 return false;
             }
-            Collection::NotLeaving | Collection::Stray => return false,
+            Looked::NotLeaving => return false,
         }
     }
     unreachable!()
@@ -270,15 +269,15 @@ fn save<L: Ledger, S: SwapSlot, C: Clock, G: Gate, R: Wait>(
         return false;
     };
     match reply {
-        SaveReply::Freed => true,
-        SaveReply::ResidentAgain(_) => {
+        SaveOutcome::Freed => true,
+        SaveOutcome::ResidentAgain(_) => {
             kill_if_spent(rt, shared.locks(), key.process);
             false
         }
-        SaveReply::NotRestored { .. } => {
+        SaveOutcome::NotRestored { .. } => {
             shared.locks().kill(rt, key.process, KillCause::NoMemory);
             false
         }
-        SaveReply::Stray | SaveReply::WrongPage(_) => false,
+        SaveOutcome::WrongPage(_) => false,
     }
 }

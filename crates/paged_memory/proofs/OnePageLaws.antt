@@ -1,5 +1,5 @@
 -- How an access uses, reaches or writes a page.
-use Rattle.std.specs.Prelude.{◌≡◌, ℕ, ◌^◌, ◌<◌, List, Result, Ok, Err, OnOk, Some, length, refl}
+use Rattle.std.specs.Prelude.{◌≡◌, ℕ, ◌^◌, ◌<◌, List, Result, Ok, Err, IfOk, OnOk, Some, length, refl}
 use Rattle.std.proofs.Common.{inl, inr}
 use Rattle.page_memory.specs.declared.words.Access.{Access}
 use Rattle.page_memory.specs.declared.words.Access.TheVariants.{Store}
@@ -10,7 +10,7 @@ use Rattle.rv_exec.specs.declared.bus.BusError.{BusError}
 use Rattle.rv_exec.specs.declared.bus.BusError.TheVariants.{Fault, Absent}
 use Rattle.tlb_core.specs.Cache.{Hits}
 use Rattle.tlb_core.specs.declared.translation.Translation.{Translation}
-use Rattle.paged_memory.specs.Access.{KeepsTranslations, Reaches, ServesHeld, cache_of}
+use Rattle.paged_memory.specs.Access.{KeepsTranslations, Reaches, Serves, ServesHeld, cache_of}
 use Rattle.paged_memory.specs.OnePage.{ReachesPage, UsesPage, WritesPage}
 use Rattle.paged_memory.specs.Paged.{Holds}
 use Rattle.paged_memory.proofs.HitLaws.{has_hit, marks_hit, reaches_hit, reaches_takes}
@@ -27,13 +27,18 @@ pub on_answer : {A P Q : Type 0} (result : Result A BusError) → (P → Q) → 
 on_answer (Ok answer) step is = step is
 on_answer (Err refusal) step is = tt
 
+-- what follows from a place where one is answered
+pub on_place : {A : Type 0} {P : A → Type 0} {Q : Type 0} (result : Result A BusError) → ((place : A) → P place → Q) → IfOk result P → OnOk result Q
+on_place (Ok place) step is = step place is
+on_place (Err refusal) step is = tt
+
 module _ {S : Type 0} {hart page : ℕ} {access : Access} {pages : List (ℕ × PageValue S)} {tables tables' : List (List ℕ)} {caches caches' : List (List Translation)} where
   -- the same use by an access that answers something else
   pub uses_answered : {A B : Type 0} {first : A} {second : B} → UsesPage hart access page (Ok first) pages tables tables' caches caches' → UsesPage hart access page (Ok second) pages tables tables' caches caches'
-  uses_answered uses = record { held = λ place hits. tt; kept = uses.kept; entries = uses.entries; unmarked = tt; unfilled = tt }
+  uses_answered uses = record { held = λ place hits. tt; kept = uses.kept; entries = uses.entries; unmarked = tt; unfilled = tt; served = uses.served; shown = uses.shown; dirtied = uses.dirtied }
 
   pub uses_refused : {A B : Type 0} {refusal : BusError} → UsesPage {A = A} hart access page (Err refusal) pages tables tables' caches caches' → UsesPage {A = B} hart access page (Err refusal) pages tables tables' caches caches'
-  uses_refused {A} {B} {refusal} uses = record { held = held_refused A B (cache_of caches hart) access page refusal uses.held; kept = uses.kept; entries = uses.entries; unmarked = uses.unmarked; unfilled = uses.unfilled }
+  uses_refused {A} {B} {refusal} uses = record { held = held_refused A B (cache_of caches hart) access page refusal uses.held; kept = uses.kept; entries = uses.entries; unmarked = uses.unmarked; unfilled = uses.unfilled; served = uses.served; shown = tt; dirtied = λ is. tt }
 
 module _ {S : Type 0} (hart page : ℕ) (pages : List (ℕ × PageValue S)) (tables : List (List ℕ)) (caches : List (List Translation)) where
   -- nothing changes
@@ -49,8 +54,17 @@ module _ {S : Type 0} (hart page : ℕ) (pages : List (ℕ × PageValue S)) (tab
     fills = inl (refl, refl);
   }
 
-  pub uses_itself : {A : Type 0} (access : Access) (answer : A) → UsesPage hart access page (Ok answer) pages tables tables caches caches
-  uses_itself access answer = record { held = λ place hits. tt; kept = keeps_itself; entries = inl refl; unmarked = tt; unfilled = tt }
+  pub uses_itself : {A : Type 0} (access : Access) (answer : A) → Serves (cache_of caches hart) access page → UsesPage hart access page (Ok answer) pages tables tables caches caches
+  uses_itself access answer serves = record {
+    held = λ place hits. tt;
+    kept = keeps_itself;
+    entries = inl refl;
+    unmarked = tt;
+    unfilled = tt;
+    served = λ other. (refl, refl);
+    shown = serves;
+    dirtied = λ is. inl serves;
+  }
 
 -- a page is reached where the hart's cache shows it
 pub reaches_at_once : {S : Type 0} {held : S → List ℕ} {honest : Type 0} {pages : List (ℕ × PageValue S)} {tables : List (List ℕ)} {caches : List (List Translation)} (page hart place : ℕ) (access : Access) → Holds held honest pages tables caches → hart < length caches → Hits (cache_of caches hart) access page place
@@ -60,7 +74,7 @@ reaches_at_once {pages} {tables} {caches} page hart place access holds within hi
   refused = tt;
   has = has_hit page hart place access holds within hits;
   marked = marks_hit page hart place access holds within hits;
-  uses = uses_itself hart page pages tables caches access place;
+  uses = uses_itself hart page pages tables caches access place (record { place = place; hits = hits });
 }
 
 -- a page is written that is lent from the place that a store reached, whatever the write answers

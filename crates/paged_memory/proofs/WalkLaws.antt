@@ -209,6 +209,7 @@ pub record Walked {S : Type 0} (held : S → List ℕ) (honest : Type 0) (pages 
   pub hits : Hits (cache_of caches' hart) access number place
   pub kept : KeepsTranslations pages hart number tables tables' caches caches'
   pub used : is_used (seen_at pages number) (entry_at tables' number) ≡ true
+  pub dirtied : access ≡ Store → is_dirty (seen_at pages number) (entry_at tables' number) ≡ true
 
 store_told : (access : Access) → access ≡ Store → is_store access ≡ true
 store_told Store is = refl
@@ -241,6 +242,10 @@ walk_done {S} {held} {honest} {pages} {tables} {caches} tables' caches' number h
           (λ is. told_dirty tables' number small holds at.resident access at.allowed entries same ∙ true_more (is_store access) (entry_at tables number).dirty (store_told access is))));
       kept = subst (λ cs. KeepsTranslations pages hart number tables tables' caches cs) (sym caches_are) (keeps_walked tables' number small holds at.resident access at.allowed entries same place hart within apart);
       used = used_now tables' number small holds at.resident access at.allowed entries same;
+      dirtied = λ is.
+          ap (λ s. is_dirty s (entry_at tables' number)) (seen_resident number small holds at.resident)
+          ∙ dirty_now tables' number small holds at.resident access at.allowed entries same
+          ∙ true_more (is_store access) (entry_at tables number).dirty (store_told access is);
     }
   where
     caches_are : caches' ≡ slice_set caches hart (filled (translation tables' number small holds at.resident access at.allowed entries same place) (slice_index_or caches hart []))

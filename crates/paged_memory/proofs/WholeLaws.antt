@@ -2,6 +2,7 @@
 use Rattle.std.specs.Prelude.{◌≡◌, ℕ, ◌^◌, ◌<◌, List, Result, Ok, Err, refl}
 use Rattle.std.proofs.Common.{sym, subst}
 use Rattle.page_memory.specs.Memory.{Memory}
+use Rattle.page_memory.specs.Reservations.{Reservations}
 use Rattle.page_memory.specs.Words.{page_number}
 use Rattle.page_memory.specs.declared.fault.MemoryFault.{MemoryFault}
 use Rattle.page_memory.specs.declared.words.Access.{Access}
@@ -10,13 +11,13 @@ use Rattle.rv_exec.specs.Answers.{BusRefuses}
 use Rattle.rv_exec.specs.declared.bus.BusError.{BusError}
 use Rattle.page_store.specs.PageValue.{PageValue}
 use Rattle.tlb_core.specs.declared.translation.Translation.{Translation}
-use Rattle.paged_memory.specs.Access.{HasPage, KeepsTranslations, LacksPage, MarksUse, cache_of}
+use Rattle.paged_memory.specs.Access.{HasPage, KeepsTranslations, LacksPage, MarksUse, TakesStores, cache_of}
 use Rattle.paged_memory.specs.Accesses.{Reads, Writes}
 use Rattle.paged_memory.specs.HartMemory.{InTurn}
 use Rattle.paged_memory.specs.HartMemoryLaws.{still_in_turn}
 use Rattle.paged_memory.specs.OnePage.{AnswersUse, UsesPage, WritesPage}
 use Rattle.paged_memory.specs.Paged.{PagedValue, memory_of}
-use Rattle.paged_memory.proofs.OnePageLaws.{uses_refused}
+use Rattle.paged_memory.proofs.OnePageLaws.{uses_answered, uses_refused}
 use Rattle.paged_memory.proofs.ReservationLaws.{bare_itself}
 
 -- a memory whose parts stand one by one is the one that the access began with
@@ -51,4 +52,24 @@ module _ {S : Type 0} (hart : ℕ) {parts old : PagedValue S} (same : parts ≡ 
     takes = tt;
     pages = writes.refused;
     reserved = refl;
+  })
+
+  -- it writes, whatever it answers
+  pub writes_whole : {A B : Type 0} {held : S → List ℕ} {honest : Type 0} {page : ℕ} {first : A} {pages : List (ℕ × PageValue S)} {tables : List (List ℕ)} {caches : List (List Translation)} (answer : B) (reserved : Reservations) → page < 2 ^ 20
+      → WritesPage held honest hart page (Ok first) parts.pages pages parts.tables tables parts.caches caches → Writes hart Store page (Ok answer) old (record parts { pages = pages; tables = tables; caches = caches; reserved = reserved })
+  writes_whole {page} {pages} {tables} {caches} answer reserved small writes = subst (λ (m : PagedValue S). Writes hart Store page (Ok answer) m (record parts { pages = pages; tables = tables; caches = caches; reserved = reserved })) same (record {
+    accesses = record { small = small; process = refl; bare = writes.bare; uses = uses_answered writes.uses };
+    takes = writes.takes;
+    pages = tt;
+    reserved = tt;
+  })
+
+  -- it might have written, and all pages stay
+  pub writes_nothing : {A B : Type 0} {page : ℕ} {first : A} {tables : List (List ℕ)} {caches : List (List Translation)} (answer : B) (reserved : Reservations) → page < 2 ^ 20
+      → UsesPage hart Store page (Ok first) parts.pages parts.tables tables parts.caches caches → TakesStores parts.pages tables page → Writes hart Store page (Ok answer) old (record parts { tables = tables; caches = caches; reserved = reserved })
+  writes_nothing {page} {tables} {caches} answer reserved small uses takes = subst (λ (m : PagedValue S). Writes hart Store page (Ok answer) m (record parts { tables = tables; caches = caches; reserved = reserved })) same (record {
+    accesses = record { small = small; process = refl; bare = bare_itself parts.pages; uses = uses_answered uses };
+    takes = takes;
+    pages = tt;
+    reserved = tt;
   })

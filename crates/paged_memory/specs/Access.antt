@@ -82,6 +82,11 @@ pub record ServedDoomed (cache : List Translation) (access : Access) (page : ℕ
   pub hits : Hits cache access page place
   pub doomed : hits.entry.doomed ≡ true
 
+-- a translation in this cache serves an access to a page, whether it is to be dropped or not
+pub record Serves (cache : List Translation) (access : Access) (page : ℕ) : Type 0 where
+  pub place : ℕ
+  pub hits : Hits cache access page place
+
 -- a page's use by an access is marked: its A is set, unless the access goes through a translation that is to be dropped
 abbrev pub MarksUse : {S : Type 0} → List (ℕ × PageValue S) → List (List ℕ) → List Translation → Access → ℕ → Type 0
 MarksUse pages tables cache access page = (is_used (seen_at pages page) (entry_at tables page) ≡ true) ⊎ ServedDoomed cache access page

@@ -7,10 +7,10 @@ ghost use Rattle.page_memory.specs.declared.words.Access.{Access};
 ghost use Rattle.sv32_table.specs.Entry.{entry_of};
 ghost use Rattle.sv32_table.specs.EntryAt.{dirty_of, entry_at};
 ghost use Rattle.paged_memory.specs.Paged.{Holds, seen_at};
-ghost use Rattle.paged_memory.specs.Seen.{is_used};
+ghost use Rattle.paged_memory.specs.Seen.{is_dirty, is_used};
 ghost use Rattle.tlb_core.specs.Cache.{Hits, translation_of};
 ghost use Rattle.paged_memory.specs.declared.caches.Miss.{Miss};
-ghost use Rattle.paged_memory.specs.Access.{Reaches, RefusesAccess, Locates, HasPage, MarksUse};
+ghost use Rattle.paged_memory.specs.Access.{Reaches, RefusesAccess, Locates, HasPage, MarksUse, Serves};
 ghost use Rattle.paged_memory.specs.Access.{KeepsTranslations, MayWalk, cache_of, resident_frame};
 ghost use Rattle.paged_memory.specs.OnePage.{ReachesPage};
 
@@ -44,6 +44,8 @@ pub(crate) fn at_hand<L: Ledger, S: SwapSlot>(
         (page_number address)) }
     ensures marked { IfSome result (λ _. MarksUse pages.now tables.now
         (cache_of caches.now hart) access (page_number address)) }
+    ensures serves { IfSome result (λ _. Serves (cache_of caches.now hart) access
+        (page_number address)) }
 {
     caches.ready(hart, access, width, address)
 }
@@ -181,6 +183,8 @@ fn walk<L: Ledger, S: SwapSlot>(
     ensures has { OnOk result (HasPage pages.now (cache_of caches.old hart) page) }
     ensures used { OnOk result (is_used (seen_at pages.now page) (entry_at tables.new page) ≡
         true) }
+    ensures dirtied { access ≡ Access.Store → OnOk result (is_dirty (seen_at pages.now page)
+        (entry_at tables.new page) ≡ true) }
 {
     let Located {
         place,

@@ -10,7 +10,7 @@ ghost use Rattle.page_store.specs.PageValue.{content, writable};
 ghost use Rattle.rv_exec.specs.Answers.{BusRefuses};
 ghost use Rattle.paged_memory.specs.Paged.{Holds, flat_pages};
 ghost use Rattle.paged_memory.specs.Replies.{loaded_by};
-ghost use Rattle.paged_memory.specs.Access.{HasPage, LacksPage, MarksUse, TakesStores, UsesBytes};
+ghost use Rattle.paged_memory.specs.Access.{HasPage, LacksPage, MarksUse, Serves, TakesStores, UsesBytes};
 ghost use Rattle.paged_memory.specs.Access.{cache_of};
 ghost use Rattle.paged_memory.specs.OnePage.{AnswersUse, UsesPage};
 
@@ -70,6 +70,8 @@ pub(crate) fn read_ready<'a, L: Ledger, S: SwapSlot>(
         (page_number address)) }
     ensures marked { IfSome result (λ _. MarksUse pages.now tables.now
         (cache_of caches.now hart) access (page_number address)) }
+    ensures serves { IfSome result (λ _. Serves (cache_of caches.now hart) access
+        (page_number address)) }
 {
     match at_hand(pages, tables, caches, hart, access, width, address) {
         Some(spot) => Some(ReadyBytes {

@@ -40,6 +40,16 @@ pub record TakesNoMore (turns : List Turn) : Type 0 where
   pub same : written_out schedule ≡ written_out (take before turns)
   pub full : room schedule next.hart < next.count
 
+-- why a run by these harts stops
+abbrev pub StopsRun : ReplayFault → List ℕ → Process → Process → Type 0
+StopsRun TooManyTurns harts before after = ⊥
+StopsRun OtherSteps harts before after = ⊥
+StopsRun (HasEnded done) harts before after = StopsAt harts before refusals.Ended done after
+StopsRun (NotLive done) harts before after = StopsAt harts before refusals.NoHart done after
+StopsRun OtherEnd harts before after = ⊥
+StopsRun OtherOutput harts before after = ⊥
+StopsRun NoMemory harts before after = ⊤
+
 -- why a record does not replay. No step was taken where its turns are wrong; lack of memory says nothing of it
 abbrev pub StopsReplay : ReplayFault → RecordValue → Process → Process → Type 0
 StopsReplay TooManyTurns told before after = TakesNoMore told.turns × (after ≡ before)

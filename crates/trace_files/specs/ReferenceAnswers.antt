@@ -45,6 +45,11 @@ Names name (Text named) = named.now ≡ name
 Names name (Record number size) = ⊤
 Names name (Compressed named compression) = named.now ≡ name
 
+-- the file of this name can't be read
+abbrev pub IsUnread : List ℕ → TraceFault → Type 0
+IsUnread name (CannotRead named) = named.now ≡ name
+IsUnread name _ = ⊥
+
 -- ---- references
 
 -- what is said of the flaw that a fault tells of; of one that comes from outside of the trace nothing is said
@@ -105,6 +110,13 @@ name_of trace = trace.pieces.name
 -- all that the reader below a trace holds is still to come
 abbrev pub IsAtFront : {F A : Type 0} → (F → Option (List ℕ)) → TraceFormat → TraceFile (BufReader F A) → Type 0
 IsAtFront remaining format trace = to_come (reader_remaining remaining) trace ≡ option_map (trace_of format) (remaining (reader_inner trace.pieces.file))
+
+-- A file that was opened is the one that is read, unless memory is wanted; of one that was not is told that it can't be read.
+abbrev pub Opens : {F E A : Type 0} → List ℕ → Result F E → Result (TraceFile (BufReader F A)) TraceFault → Type 0
+Opens name (Ok file) (Ok trace) = reader_inner trace.pieces.file ≡ file
+Opens name (Ok file) (Err fault) = fault ≡ NoMemory
+Opens name (Err error) (Ok trace) = ⊥
+Opens name (Err error) (Err fault) = IsUnread name fault
 
 -- ---- many references
 

@@ -34,6 +34,11 @@ unfoldable pub field_size : ℕ → Bool → List ℕ → ℕ
 field_size separator quoted [] = 0
 field_size separator quoted (c ∷ line) = if (c == separator) && not quoted then 0 else suc (field_size separator (quoted_after quoted c) line)
 
+-- the fields behind the first separator, if there is one
+abbrev pub fields_behind : ℕ → Option (List ℕ) → List (List ℕ)
+fields_behind separator None = []
+fields_behind separator (Some line) = fields_of separator line
+
 -- the first separator of a line that is not quoted, or a comma
 unfoldable pub separator_from : Bool → List ℕ → ℕ
 separator_from quoted [] = 44

@@ -25,11 +25,6 @@ carrying_first at next first (y ∷ ys) now some is apart set = rw set (record {
     other : (x y : ℕ) → x ≡ y → (x == at) ≡ false → (y == at) ≡ false
     other x y e h = subst (λ (k : ℕ). (k == at) ≡ false) e h
 
-)
-  where
-    also : (x y : ℕ) → x ≡ y → (x == at) ≡ true → (y == at) ≡ true
-    also x y e h = subst (λ (k : ℕ). (k == at) ≡ true) e h
-
 -- what stands here
 here_is : (here : ℕ) (now : List ℕ) → here < length now → drop here now ≡ slice_index_or now here 0 ∷ drop (suc here) now
 here_is here [] h = absurd (omega (arith, h))

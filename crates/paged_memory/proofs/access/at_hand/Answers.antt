@@ -12,6 +12,9 @@ pub returns-clause-reaches : goal.returns-clause-reaches
 returns-clause-reaches g c =
     where_some c.ready.result (λ spot hits. reaches_hit (page_number c.args.address) c.args.hart spot.place c.args.access c.requires.holds c.requires.hart hits) c.ready.ensures.hits
 
+pub returns-clause-serves : goal.returns-clause-serves
+returns-clause-serves g c = where_some c.ready.result (λ spot hits. record { place = spot.place; hits = hits }) c.ready.ensures.hits
+
 pub returns-clause-marked : goal.returns-clause-marked
 returns-clause-marked g c =
     where_some c.ready.result (λ spot hits. marks_hit (page_number c.args.address) c.args.hart spot.place c.args.access c.requires.holds c.requires.hart hits) c.ready.ensures.hits

@@ -1,9 +1,9 @@
-use Rattle.std.proofs.Common.{subst, inl}
+use Rattle.std.proofs.Common.{subst, inl, inr}
 use Rattle.page_memory.specs.Words.{page_number}
 use Rattle.tlb_core.specs.Cache.{Hits}
 use Rattle.paged_memory.specs.Access.{cache_of}
 use Rattle.paged_memory.specs.OnePage.{ReachesPage}
-use Rattle.paged_memory.proofs.OnePageLaws.{on_answer, reaches_at_once}
+use Rattle.paged_memory.proofs.OnePageLaws.{on_answer, on_place, reaches_at_once}
 use Rattle.paged_memory.proofs.access.hit_or_walk.Goals as goal
 
 pub returns-in-Ok-clause-reached : goal.returns-in-Ok-clause-reached
@@ -19,5 +19,5 @@ returns-in-Err-clause-reached g c =
       refused = walked.refused;
       has = walked.has;
       marked = on_answer c.walk.result inl walked.used;
-      uses = record { held = λ place hits. absurd (c.in-Err.ensures.none place hits); kept = walked.kept; entries = walked.entries; unmarked = walked.unmarked; unfilled = walked.unfilled };
+      uses = record { held = λ place hits. absurd (c.in-Err.ensures.none place hits); kept = walked.kept; entries = walked.entries; unmarked = walked.unmarked; unfilled = walked.unfilled; served = λ serves. absurd (c.in-Err.ensures.none serves.place serves.hits); shown = on_place c.walk.result (λ place hits. record { place = place; hits = hits }) walked.hits; dirtied = λ is. on_answer c.walk.result inr (walked.dirtied is) };
     })

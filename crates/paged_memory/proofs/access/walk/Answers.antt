@@ -24,5 +24,8 @@ returns-clause-kept g c = (done g c).kept
 pub returns-clause-used : goal.returns-clause-used
 returns-clause-used g c = (done g c).used
 
+pub returns-clause-dirtied : goal.returns-clause-dirtied
+returns-clause-dirtied g c = (done g c).dirtied
+
 pub returns-clause-entries : goal.returns-clause-entries
 returns-clause-entries g c = inr (subst (λ n. ChangesEntry c.args.tables.now c.walk-walked.new.self n (walked_entry (entry_at c.args.tables.now n) c.args.access)) (sym c.requires.page) c.walk-walked.ensures.entries)

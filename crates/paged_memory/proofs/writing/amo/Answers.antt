@@ -17,4 +17,4 @@ pub returns-in-Some-clause-writes : goal.returns-in-Some-clause-writes
 returns-in-Some-clause-writes g c =
     let small : page_number c.args.address < 2 ^ 20 = omega arith in
     writes_lent (page_number c.args.address) c.in-Some.spot.place small c.requires.holds c.in-Some.ensures.reaches
-    (uses_itself c.args.hart (page_number c.args.address) c.args.pages.now c.args.tables.now c.args.caches.now Store c.in-Some.spot.place) c.at_mut.result.now c.replace_word_in.new.page c.at_mut.ensures.value _ c.replace_word_in.ensures.page
+    (uses_itself c.args.hart (page_number c.args.address) c.args.pages.now c.args.tables.now c.args.caches.now Store c.in-Some.spot.place c.in-Some.ensures.serves) c.at_mut.result.now c.replace_word_in.new.page c.at_mut.ensures.value _ c.replace_word_in.ensures.page

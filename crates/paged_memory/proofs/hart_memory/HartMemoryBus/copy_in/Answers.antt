@@ -5,7 +5,7 @@ use Rattle.page_memory.proofs.MemoryLaws.{copied_of}
 use Rattle.paged_memory.specs.Access.{LacksPage}
 use Rattle.paged_memory.specs.Paged.{memory_in}
 use Rattle.paged_memory.proofs.ReservationLaws.{copy_refused}
-use Rattle.paged_memory.proofs.WholeLaws.{turn_goes_on, whole_answered, whole_refused, writes_not}
+use Rattle.paged_memory.proofs.WholeLaws.{turn_goes_on, whole_answered, whole_refused, writes_not, writes_whole}
 use Rattle.paged_memory.proofs.hart_memory.HartMemoryBus.copy_in.Goals as goal
 
 pub returns-in-Ok-clause-answer : goal.returns-in-Ok-clause-answer
@@ -27,3 +27,8 @@ returns-in-Err-clause-writes g c =
 
 pub invariant_of-self : goal.invariant_of-self
 invariant_of-self g c = record { in_turn = turn_goes_on c.args.self.now.hart c.memory.view_is c.args.self.now.in_turn c.copy_in.ensures.writes.uses.kept }
+
+pub returns-in-Ok-clause-writes : goal.returns-in-Ok-clause-writes
+returns-in-Ok-clause-writes g c =
+    let fits = c.ranges.address.fits in
+    writes_whole c.args.self.now.hart c.memory.view_is _ c.end.new.self (omega arith) c.in-Ok.ensures.writes

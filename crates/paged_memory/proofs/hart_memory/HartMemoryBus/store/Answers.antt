@@ -6,7 +6,7 @@ use Rattle.page_memory.specs.Reservations.{left_by}
 use Rattle.paged_memory.specs.Access.{LacksPage}
 use Rattle.paged_memory.specs.Paged.{memory_in}
 use Rattle.paged_memory.proofs.ReservationLaws.{store_refused}
-use Rattle.paged_memory.proofs.WholeLaws.{turn_goes_on, whole_answered, whole_refused, writes_not}
+use Rattle.paged_memory.proofs.WholeLaws.{turn_goes_on, whole_answered, whole_refused, writes_not, writes_whole}
 use Rattle.paged_memory.proofs.hart_memory.HartMemoryBus.store.Goals as goal
 
 pub returns-in-Ok-clause-answer : goal.returns-in-Ok-clause-answer
@@ -28,3 +28,8 @@ returns-in-Err-clause-writes g c =
 
 pub invariant_of-self : goal.invariant_of-self
 invariant_of-self g c = record { in_turn = turn_goes_on c.args.self.now.hart c.memory.view_is c.args.self.now.in_turn c.store.ensures.writes.uses.kept }
+
+pub returns-in-Ok-clause-writes : goal.returns-in-Ok-clause-writes
+returns-in-Ok-clause-writes g c =
+    let fits = c.ranges.address.fits in
+    writes_whole c.args.self.now.hart c.memory.view_is _ c.end.new.self (omega arith) c.in-Ok.ensures.writes

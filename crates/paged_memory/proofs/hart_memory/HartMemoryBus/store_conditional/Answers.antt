@@ -7,7 +7,7 @@ use Rattle.paged_memory.specs.Access.{LacksPage}
 use Rattle.paged_memory.specs.Paged.{memory_in}
 use Rattle.paged_memory.proofs.ReservationLaws.{conditional_refused, untested_refused}
 use Rattle.paged_memory.proofs.OnePageLaws.{writes_refused}
-use Rattle.paged_memory.proofs.WholeLaws.{turn_goes_on, whole_answered, whole_refused, writes_not}
+use Rattle.paged_memory.proofs.WholeLaws.{turn_goes_on, whole_answered, whole_refused, writes_not, writes_nothing, writes_whole}
 use Rattle.paged_memory.proofs.hart_memory.HartMemoryBus.store_conditional.Goals as goal
 
 pub returns-in-Ok-clause-answer : goal.returns-in-Ok-clause-answer
@@ -46,3 +46,13 @@ returns-in-Err-load_to_replace-clause-writes g c =
 
 pub invariant_of-self : goal.invariant_of-self
 invariant_of-self g c = record { in_turn = turn_goes_on c.args.self.now.hart c.memory.view_is c.args.self.now.in_turn c.store.ensures.writes.uses.kept }
+
+pub returns-in-Ok-clause-writes : goal.returns-in-Ok-clause-writes
+returns-in-Ok-clause-writes g c =
+    let fits = c.ranges.address.fits in
+    writes_whole c.args.self.now.hart c.memory.view_is _ c.end.new.self (omega arith) c.in-Ok.ensures.writes
+
+pub returns-in-Ok-load_to_replace-clause-writes : goal.returns-in-Ok-load_to_replace-clause-writes
+returns-in-Ok-load_to_replace-clause-writes g c =
+    let fits = c.ranges.address.fits in
+    writes_nothing c.args.self.now.hart c.memory.view_is _ c.release-in-Ok-load_to_replace.new.self (omega arith) c.in-Ok-load_to_replace.ensures.uses c.in-Ok-load_to_replace.ensures.takes

@@ -727,6 +727,8 @@ pub mod sync {
 
         pub struct Share<L>(PhantomData<L>);
 
+        pub struct Total<L>(PhantomData<L>);
+
         pub struct Blank;
 
         impl Blank {
@@ -737,6 +739,18 @@ pub mod sync {
             pub fn open<L: Ledger>(self) -> (Book<L>, Share<L>) {
                 (Book(PhantomData), Share(PhantomData))
             }
+        }
+
+        impl<L> Book<L> {
+            pub fn add(&mut self, _: &mut Share<L>, _: u64) {}
+
+            pub fn close(self) -> Total<L> {
+                Total(PhantomData)
+            }
+        }
+
+        impl<L> Total<L> {
+            pub fn audit(&self, _: &mut Share<L>) {}
         }
 
         impl<L> Share<L> {

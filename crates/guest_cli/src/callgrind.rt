@@ -1,7 +1,8 @@
 //! A profile in the format of callgrind ("Callgrind Format Specification" of Valgrind's manual), by instructions.
 
 use crate::function_names::{FunctionNames, INNER};
-use crate::profile_tables::{CallRow, NOTHING, Row, Sums, Tables};
+use crate::profile_tables::{CallRow, Row, Tables};
+use guest_profile::{NOTHING, Sums};
 use std::io;
 use std::io::Write;
 
@@ -75,15 +76,16 @@ fn write_sums<O: Write>(sums: Sums, out: &mut O) -> io::Result<()> {
     writeln!(out, "{steps} {loads} {stores} {branches} {taken}")
 }
 
-/// A call: whose it is, what is called and how often, and the steps that were done inside.
+/// A call: whose it is, what is called and how often, and what was done inside.
 fn write_call<O: Write>(row: &CallRow, names: &FunctionNames<'_>, out: &mut O) -> io::Result<()> {
     let (site, callee) = (row.call.site, row.call.callee);
-    let (times, inside) = (row.times, row.inside);
+    let times = row.times;
     let caller = names.function_of(site);
     write_function("fn", caller, names.caller_level(row.call), names, out)?;
     write_function("cfn", callee, row.call.level, names, out)?;
     writeln!(out, "calls={times} 0x{callee:x} 0")?;
-    writeln!(out, "0x{site:x} 0 {inside} 0 0 0 0")
+    write!(out, "0x{site:x} 0 ")?;
+    write_sums(row.sums, out)
 }
 
 fn write_function<O: Write>(

@@ -1,21 +1,10 @@
 //! Counts by instruction, by function and by call, in the order in which they are written.
 
 use crate::function_names::FunctionNames;
-use guest_profile::{CallSite, InsnTally, Profile};
-use guest_steps::{Flow, flow_of};
-use rv_isa::{Insn, decode};
+use guest_profile::{CallSite, InsnTally, NOTHING, Profile, Sums};
+use rv_isa::decode;
 use std::alloc::{AllocError, AllocFailed, Global};
 use std::collections::BTreeMap;
-
-/// What is summed.
-#[derive(Clone, Copy, Debug, PartialEq, Eq, PartialOrd, Ord)]
-pub(crate) struct Sums {
-    pub(crate) steps: u64,
-    pub(crate) loads: u64,
-    pub(crate) stores: u64,
-    pub(crate) branches: u64,
-    pub(crate) taken: u64,
-}
 
 /// A row: ordered by steps.
 #[derive(Clone, Copy, Debug, PartialEq, Eq, PartialOrd, Ord)]
@@ -34,6 +23,8 @@ pub(crate) struct CallRow {
     pub(crate) inside: u64,
     pub(crate) times: u64,
     pub(crate) call: CallSite,
+    /// What was done inside.
+    pub(crate) sums: Sums,
 }
 
 /// The counts of a profile.
@@ -50,59 +41,14 @@ pub(crate) struct Tables {
     pub(crate) calls: Vec<CallRow>,
 }
 
-/// No counts.
-pub(crate) const NOTHING: Sums = Sums {
-    steps: 0,
-    loads: 0,
-    stores: 0,
-    branches: 0,
-    taken: 0,
-};
-
-impl Sums {
-    /// Of an instruction's word that ran so often, and went on elsewhere than behind it so often.
-    fn of(word: u32, steps: u64, taken: u64) -> Self {
-        let mut sums = NOTHING;
-        sums.steps = steps;
-        let Some(insn) = decode(word) else {
-            return sums;
-        };
-        let kept = insn;
-        match kept {
-            Insn::Load { .. } => sums.loads = steps,
-            Insn::LoadReserved { .. } => sums.loads = steps,
-            Insn::Store { .. } => sums.stores = steps,
-            Insn::StoreConditional { .. } => sums.stores = steps,
-            Insn::Amo { .. } => {
-                sums.loads = steps;
-                sums.stores = steps;
-            }
-            _ => {}
-        }
-        if flow_of(insn) == Flow::Branch {
-            sums.branches = steps;
-            sums.taken = taken;
-        }
-        sums
-    }
-
-    fn and(self, other: Sums) -> Self {
-        Sums {
-            steps: self.steps.saturating_add(other.steps),
-            loads: self.loads.saturating_add(other.loads),
-            stores: self.stores.saturating_add(other.stores),
-            branches: self.branches.saturating_add(other.branches),
-            taken: self.taken.saturating_add(other.taken),
-        }
-    }
-
-    pub(crate) fn without(self, other: Sums) -> Self {
-        Sums {
-            steps: self.steps.saturating_sub(other.steps),
-            loads: self.loads.saturating_sub(other.loads),
-            stores: self.stores.saturating_sub(other.stores),
-            branches: self.branches.saturating_sub(other.branches),
-            taken: self.taken.saturating_sub(other.taken),
+/// Of an instruction's word that ran so often, and went on elsewhere than behind it so often.
+fn sums_of(word: u32, steps: u64, taken: u64) -> Sums {
+    match decode(word) {
+        Some(insn) => Sums::of(insn, steps, taken),
+        None => {
+            let mut sums = NOTHING;
+            sums.steps = steps;
+            sums
         }
     }
 }
@@ -112,10 +58,10 @@ impl Row {
     fn of(address: u32, counts: InsnTally) -> Self {
         let word = counts.word;
         Row {
-            sums: Sums::of(word, counts.steps, counts.taken),
+            sums: sums_of(word, counts.steps, counts.taken),
             address,
             word,
-            inner: Sums::of(word, counts.inner_steps, counts.inner_taken),
+            inner: sums_of(word, counts.inner_steps, counts.inner_taken),
         }
     }
 }
@@ -212,9 +158,10 @@ fn calls_of(alloc: Global, profile: &Profile) -> Result<Vec<CallRow>, AllocError
     for call in profile.calls(alloc)?.as_slice() {
         if let Some(count) = profile.call(*call) {
             let row = CallRow {
-                inside: count.inside,
+                inside: count.inside.steps,
                 times: count.times,
                 call: *call,
+                sums: count.inside,
             };
             rows.push(row).map_err(AllocError::from)?;
         }

@@ -1,8 +1,8 @@
 //! A profile as tables.
 
 use crate::function_names::FunctionNames;
-use crate::profile_tables::{CallRow, Row, Sums, Tables};
-use guest_profile::Profile;
+use crate::profile_tables::{CallRow, Row, Tables};
+use guest_profile::{Profile, Sums};
 use rv_isa::decode;
 use std::io;
 use std::io::Write;

@@ -8,7 +8,7 @@ use Rattle.guest_steps.specs.Flows.{flow_of}
 use Rattle.guest_steps.specs.declared.told_step.ToldStep.{ToldStep}
 use Rattle.guest_profile.specs.declared.call_site.CallSite.{CallSite}
 use Rattle.guest_profile.specs.declared.profile.Profile.{Profile}
-use Rattle.guest_profile.specs.Accounts.{Account, IsAccount, after, after_fetch, after_insn, insns_after, step_jump}
+use Rattle.guest_profile.specs.Accounts.{Account, IsAccount, after, after_fetch, after_insn, insns_after, step_jump, step_sums}
 use Rattle.guest_profile.specs.Calls.{hart_call_after, followed, calls_of, hart_calls}
 use Rattle.guest_profile.specs.Counting.{counts_of}
 use Rattle.guest_profile.specs.Pages.{used_by}
@@ -45,9 +45,9 @@ no_insn old new told account word is none insns calls pages stacks kept =
 -- it is one
 pub insn_counted : (old new : Profile) (told : ToldStep) (account : Account) (word : ℕ) (insn : Insn) → told.word ≡ Ok word → insn_of word ≡ Some insn
     → ((at : ℕ) → counts_of new.insns at ≡ insns_after told word (map hart_calls old.stacks.items) at (counts_of old.insns at))
-    → ((site : CallSite) → calls_of new.calls site ≡ hart_call_after (slice_get (map hart_calls old.stacks.items) told.hart) (flow_of insn) (step_jump told) site (calls_of old.calls site))
+    → ((site : CallSite) → calls_of new.calls site ≡ hart_call_after (slice_get (map hart_calls old.stacks.items) told.hart) (flow_of insn) (step_jump (step_sums insn told) told) site (calls_of old.calls site))
     → ((page : ℕ) → use_of new.pages page ≡ used_by (accessed told.before insn) page (use_of old.pages page))
-    → map hart_calls new.stacks.items ≡ followed told.hart (flow_of insn) (step_jump told) (map hart_calls old.stacks.items)
+    → map hart_calls new.stacks.items ≡ followed told.hart (flow_of insn) (step_jump (step_sums insn told) told) (map hart_calls old.stacks.items)
     → IsAccount old account → IsAccount new (after told account)
 unfolding after
 insn_counted old new told account word insn is some insns calls pages harts kept =
@@ -57,8 +57,8 @@ insn_counted old new told account word insn is some insns calls pages harts kept
       insns = λ at. insns at ∙ insns_kept old account told word at kept;
       calls = λ site.
           calls site
-          ∙ ap (λ h. hart_call_after (slice_get h told.hart) (flow_of insn) (step_jump told) site (calls_of old.calls site)) kept.harts
-          ∙ ap (hart_call_after (slice_get account.harts told.hart) (flow_of insn) (step_jump told) site) (kept.calls site);
+          ∙ ap (λ h. hart_call_after (slice_get h told.hart) (flow_of insn) (step_jump (step_sums insn told) told) site (calls_of old.calls site)) kept.harts
+          ∙ ap (hart_call_after (slice_get account.harts told.hart) (flow_of insn) (step_jump (step_sums insn told) told) site) (kept.calls site);
       pages = λ page. pages page ∙ ap (used_by (accessed told.before insn) page) (kept.pages page);
-      harts = harts ∙ ap (followed told.hart (flow_of insn) (step_jump told)) kept.harts;
+      harts = harts ∙ ap (followed told.hart (flow_of insn) (step_jump (step_sums insn told) told)) kept.harts;
     }))

@@ -32,12 +32,12 @@ pub rest_more : (harts now : List HartCalls) (place : ℕ) (hart : HartCalls) �
 rest_more harts now place hart within rest at =
     drop-set-lt (place + 1) now place (none_pending hart) (omega arith) ∙ (same_next harts now place hart within rest at).2
 
-ended_push : (harts : List HartCalls) (one : HartCalls) (site : CallSite) (count : Option CallCount) → all_ended (harts ++ one ∷ []) site count ≡ ended one.steps one.pending site (all_ended harts site count)
+ended_push : (harts : List HartCalls) (one : HartCalls) (site : CallSite) (count : Option CallCount) → all_ended (harts ++ one ∷ []) site count ≡ ended one.done one.pending site (all_ended harts site count)
 ended_push [] one site count = refl
-ended_push (first ∷ others) one site count = ended_push others one site (ended first.steps first.pending site count)
+ended_push (first ∷ others) one site count = ended_push others one site (ended first.done first.pending site count)
 
 pub calls_more : (harts now : List HartCalls) (place : ℕ) (hart : HartCalls) (site : CallSite) (count : Option CallCount) → place < length now → drop place now ≡ drop place harts → hart ≡ get_or now place hart
-    → all_ended (take (place + 1) harts) site count ≡ ended hart.steps hart.pending site (all_ended (take place harts) site count)
+    → all_ended (take (place + 1) harts) site count ≡ ended hart.done hart.pending site (all_ended (take place harts) site count)
 calls_more harts now place hart site count within rest at =
     let next = same_next harts now place hart within rest at in
     ap (λ l. all_ended l site count) (take_more harts place hart next.0 ∙ ap (λ h. take place harts ++ h ∷ []) next.1)

@@ -6,6 +6,7 @@ use Rattle.guest_profile.specs.declared.call_site.CallCount.{CallCount}
 use Rattle.guest_profile.specs.declared.call_site.CallSite.{CallSite}
 use Rattle.guest_profile.specs.declared.call_stack.PendingCall.{PendingCall}
 use Rattle.guest_profile.specs.declared.call_stack.Sought.{Sought}
+use Rattle.guest_profile.specs.declared.sums.Sums.{Sums}
 use Rattle.guest_profile.specs.Calls.{is_sought, last_sought, ended, ended_call}
 
 -- one more call at the end
@@ -47,21 +48,21 @@ pub sought_none : (sought : Sought) (calls : List PendingCall) (place : ℕ) →
 sought_none sought calls place none = let zeroth : place ≡ 0 = omega arith in ap (λ n. last_sought sought (take n calls)) zeroth
 
 -- the last of some calls ends first
-ended_push : (steps : ℕ) (calls : List PendingCall) (one : PendingCall) (site : CallSite) (count : Option CallCount) → ended steps (calls ++ one ∷ []) site count ≡ ended steps calls site (ended_call steps one site count)
-ended_push steps [] one site count = refl
-ended_push steps (first ∷ later) one site count = ap (ended_call steps first site) (ended_push steps later one site count)
+ended_push : (done : Sums) (calls : List PendingCall) (one : PendingCall) (site : CallSite) (count : Option CallCount) → ended done (calls ++ one ∷ []) site count ≡ ended done calls site (ended_call done one site count)
+ended_push done [] one site count = refl
+ended_push done (first ∷ later) one site count = ap (ended_call done first site) (ended_push done later one site count)
 
 -- so it does of those from a place on
-pub ended_last : (steps place : ℕ) (calls rest : List PendingCall) (one : PendingCall) (site : CallSite) (count : Option CallCount) → calls ≡ rest ++ one ∷ [] → place ≤ length rest
-    → ended steps (drop place calls) site count ≡ ended steps (drop place rest) site (ended_call steps one site count)
-ended_last steps place calls rest one site count is within =
-    ap (λ l. ended steps (drop place l) site count) is
-    ∙ ap (λ l. ended steps l site count) (drop-append-le place rest (one ∷ []) within)
-    ∙ ended_push steps (drop place rest) one site count
+pub ended_last : (done : Sums) (place : ℕ) (calls rest : List PendingCall) (one : PendingCall) (site : CallSite) (count : Option CallCount) → calls ≡ rest ++ one ∷ [] → place ≤ length rest
+    → ended done (drop place calls) site count ≡ ended done (drop place rest) site (ended_call done one site count)
+ended_last done place calls rest one site count is within =
+    ap (λ l. ended done (drop place l) site count) is
+    ∙ ap (λ l. ended done l site count) (drop-append-le place rest (one ∷ []) within)
+    ∙ ended_push done (drop place rest) one site count
 
 pub taken_last : (place : ℕ) (calls rest : List PendingCall) (one : PendingCall) → calls ≡ rest ++ one ∷ [] → place ≤ length rest → take place calls ≡ take place rest
 taken_last place calls rest one is within = ap (take place) is ∙ take-append-le place rest (one ∷ []) within
 
 -- none is left
-pub ended_none : (steps place : ℕ) (calls : List PendingCall) (site : CallSite) (count : Option CallCount) → length calls ≤ place → ended steps (drop place calls) site count ≡ count
-ended_none steps place calls site count past = ap (λ l. ended steps l site count) (drop_all place calls past)
+pub ended_none : (done : Sums) (place : ℕ) (calls : List PendingCall) (site : CallSite) (count : Option CallCount) → length calls ≤ place → ended done (drop place calls) site count ≡ count
+ended_none done place calls site count past = ap (λ l. ended done l site count) (drop_all place calls past)

@@ -10,12 +10,14 @@ use Rattle.guest_steps.specs.declared.told_step.ToldStep.{ToldStep}
 use Rattle.guest_profile.specs.Calls.{HartCalls, no_calls, hart_call_after, hart_level, followed, all_ended, none_pending, calls_of, hart_calls}
 use Rattle.guest_profile.specs.Counting.{counted, counts_of}
 use Rattle.guest_profile.specs.Pages.{used_by}
+use Rattle.guest_profile.specs.Sums.{step_of}
 use Rattle.guest_profile.specs.UsedPagesOf.{use_of}
 use Rattle.guest_profile.specs.declared.call_site.CallCount.{CallCount}
 use Rattle.guest_profile.specs.declared.call_site.CallSite.{CallSite}
 use Rattle.guest_profile.specs.declared.call_site.Jump.{Jump}
 use Rattle.guest_profile.specs.declared.insn_counts.InsnTally.{InsnTally}
 use Rattle.guest_profile.specs.declared.profile.Profile.{Profile}
+use Rattle.guest_profile.specs.declared.sums.Sums.{Sums}
 
 -- of each instruction by its address, of each call, of each page whether it was stored to, where it was used, and of each hart the calls
 -- that have not returned
@@ -29,13 +31,17 @@ pub record Account : Type 0 where
 abbrev pub nothing : Account
 nothing = record { insns = λ at. None; calls = λ site. None; pages = λ page. None; harts = replicate 8 no_calls }
 
--- a step as a jump: where it is, where its hart goes on, and its stack pointer (x2) then
-abbrev pub step_jump : ToldStep → Jump
-step_jump told = record { site = told.before.pc; target = told.after.pc; sp = register told.after 2 }
-
 -- whether a hart goes on elsewhere than behind its instruction
 abbrev pub is_taken : ToldStep → Bool
 is_taken told = not (told.after.pc == next_pc told.before)
+
+-- what a step of an instruction does, in numbers
+abbrev pub step_sums : Insn → ToldStep → Sums
+step_sums insn told = step_of insn (is_taken told)
+
+-- a step that does this as a jump: where it is, where its hart goes on, and its stack pointer (x2) then
+abbrev pub step_jump : Sums → ToldStep → Jump
+step_jump step told = record { site = told.before.pc; target = told.after.pc; sp = register told.after 2; step = step }
 
 -- a step of an instruction's word, at the level of its hart's last pending call
 abbrev pub insns_after : ToldStep → ℕ → List HartCalls → ℕ → Option InsnTally → Option InsnTally
@@ -48,9 +54,9 @@ after_insn None word told account =
 after_insn (Some insn) word told account =
     record {
       insns = λ at. insns_after told word account.harts at (account.insns at);
-      calls = λ site. hart_call_after (slice_get account.harts told.hart) (flow_of insn) (step_jump told) site (account.calls site);
+      calls = λ site. hart_call_after (slice_get account.harts told.hart) (flow_of insn) (step_jump (step_sums insn told) told) site (account.calls site);
       pages = λ page. used_by (accessed told.before insn) page (account.pages page);
-      harts = followed told.hart (flow_of insn) (step_jump told) account.harts;
+      harts = followed told.hart (flow_of insn) (step_jump (step_sums insn told) told) account.harts;
     }
 
 -- a step, of which the fetch gave this; where it gave no word, none of an instruction

@@ -15,6 +15,8 @@ use Rattle.guest_profile.specs.declared.call_stack.PendingCall.{PendingCall}
 use Rattle.guest_profile.specs.declared.call_stack.Sought.{Sought}
 use Rattle.guest_profile.specs.declared.call_stack.Sought.TheVariants.{Behind, To, HeldAt, HeldAbove}
 use Rattle.guest_profile.specs.Counting.{more}
+use Rattle.guest_profile.specs.Sums.{both, nothing, without}
+use Rattle.guest_profile.specs.declared.sums.Sums.{Sums}
 
 -- two calls from the same place to the same callee, at the same levels
 abbrev pub is_call : CallSite → CallSite → Bool
@@ -33,7 +35,7 @@ abbrev pub was_made : CallCounts → CallSite → Bool
 was_made counts site = is_some (calls_of counts site)
 
 abbrev pub call_known : Option CallCount → CallCount
-call_known count = unwrap_or count (record { times = 0; inside = 0 })
+call_known count = unwrap_or count (record { times = 0; inside = nothing })
 
 -- one more of the same call
 abbrev pub begun_count : CallCount → CallCount
@@ -43,33 +45,33 @@ begun_count count = record { times = more count.times 1; inside = count.inside }
 abbrev pub begun : CallSite → CallSite → Option CallCount → Option CallCount
 begun call site count = if is_call call site then Some (begun_count (call_known count)) else count
 
--- one of the same calls is over after so many steps, which count or do not
-abbrev pub ended_count : ℕ → Bool → CallCount → CallCount
-ended_count inside counts count = record { times = count.times; inside = more count.inside (if counts then inside else 0) }
+-- one of the same calls is over after these steps, which count or do not
+abbrev pub ended_count : Sums → Bool → CallCount → CallCount
+ended_count inside counts count = record { times = count.times; inside = both count.inside (if counts then inside else nothing) }
 
--- what is counted of a call after one is over, the same one or another, when its hart had done so many steps
-abbrev pub ended_call : ℕ → PendingCall → CallSite → Option CallCount → Option CallCount
-ended_call steps one site count = if is_call one.call site then Some (ended_count (steps - one.begun) one.counts (call_known count)) else count
+-- what is counted of a call after one is over, the same one or another, when its hart had done this
+abbrev pub ended_call : Sums → PendingCall → CallSite → Option CallCount → Option CallCount
+ended_call done one site count = if is_call one.call site then Some (ended_count (without done one.begun) one.counts (call_known count)) else count
 
 -- and after several are, the last one first
-abbrev pub ended : ℕ → List PendingCall → CallSite → Option CallCount → Option CallCount
-ended steps [] site count = count
-ended steps (one ∷ later) site count = ended_call steps one site (ended steps later site count)
+abbrev pub ended : Sums → List PendingCall → CallSite → Option CallCount → Option CallCount
+ended done [] site count = count
+ended done (one ∷ later) site count = ended_call done one site (ended done later site count)
 
--- the calls of a hart that have not returned, the last one last, and how many steps it has done
+-- the calls of a hart that have not returned, the last one last, and what it has done
 pub record HartCalls : Type 0 where
   pub pending : List PendingCall
-  pub steps : ℕ
+  pub done : Sums
 
 abbrev pub hart_calls : CallStack → HartCalls
-hart_calls stack = record { pending = stack.pending.items; steps = stack.steps }
+hart_calls stack = record { pending = stack.pending.items; done = stack.done }
 
 abbrev pub no_calls : HartCalls
-no_calls = record { pending = []; steps = 0 }
+no_calls = record { pending = []; done = nothing }
 
 -- the hart does a step
-abbrev pub stepped : HartCalls → HartCalls
-stepped hart = record { pending = hart.pending; steps = more hart.steps 1 }
+abbrev pub stepped : Sums → HartCalls → HartCalls
+stepped step hart = record { pending = hart.pending; done = both hart.done step }
 
 -- whether a pending call is one that is sought: an address is the one behind it; it is of this callee; it was made at this stack pointer or
 -- above it; it was made above it
@@ -117,13 +119,13 @@ call_made jump pending = record { site = jump.site; callee = jump.target; from_l
 abbrev pub pending_made : Jump → HartCalls → PendingCall
 pending_made jump hart = record {
   call = call_made jump hart.pending;
-  begun = hart.steps;
+  begun = hart.done;
   sp = jump.sp;
   counts = counts_beside (last_to jump.target hart.pending);
 }
 
 abbrev pub made : Jump → HartCalls → HartCalls
-made jump hart = record { pending = hart.pending ++ pending_made jump hart ∷ []; steps = hart.steps }
+made jump hart = record { pending = hart.pending ++ pending_made jump hart ∷ []; done = hart.done }
 
 -- the calls up to the last one that is sought are held
 abbrev pub place_behind : Option ℕ → ℕ
@@ -135,10 +137,10 @@ held sought pending = place_behind (last_sought sought pending)
 
 -- the calls from a place on are over
 abbrev pub cut : ℕ → HartCalls → HartCalls
-cut place hart = record { pending = take place hart.pending; steps = hart.steps }
+cut place hart = record { pending = take place hart.pending; done = hart.done }
 
 abbrev pub ended_from : ℕ → HartCalls → CallSite → Option CallCount → Option CallCount
-ended_from place hart site count = ended hart.steps (drop place hart.pending) site count
+ended_from place hart site count = ended hart.done (drop place hart.pending) site count
 
 -- A call that was made at a lower stack pointer than the hart's is over: the hart has left it, as longjmp does. So are all calls behind the
 -- last one that was made at this stack pointer or above it.
@@ -164,7 +166,7 @@ flowed Branch jump hart = hart
 flowed Other jump hart = hart
 
 abbrev pub hart_after : Flow → Jump → HartCalls → HartCalls
-hart_after flow jump hart = flowed flow jump (unwound jump.sp (stepped hart))
+hart_after flow jump hart = flowed flow jump (unwound jump.sp (stepped jump.step hart))
 
 -- and what is counted of a call then
 abbrev pub call_flowed : Flow → Jump → HartCalls → CallSite → Option CallCount → Option CallCount
@@ -174,7 +176,7 @@ call_flowed Branch jump hart site count = count
 call_flowed Other jump hart site count = count
 
 abbrev pub call_after : Flow → Jump → HartCalls → CallSite → Option CallCount → Option CallCount
-call_after flow jump hart site count = call_flowed flow jump (unwound jump.sp (stepped hart)) site (ended_from (place_left jump.sp (stepped hart)) (stepped hart) site count)
+call_after flow jump hart site count = call_flowed flow jump (unwound jump.sp (stepped jump.step hart)) site (ended_from (place_left jump.sp (stepped jump.step hart)) (stepped jump.step hart) site count)
 
 -- the same where there is such a hart
 abbrev pub hart_call_after : Option HartCalls → Flow → Jump → CallSite → Option CallCount → Option CallCount
@@ -199,9 +201,9 @@ hart_depth (Some hart) = length hart.pending
 
 -- all calls of a hart are over
 abbrev pub none_pending : HartCalls → HartCalls
-none_pending hart = record { pending = []; steps = hart.steps }
+none_pending hart = record { pending = []; done = hart.done }
 
 -- those of all harts are, one hart after the other
 abbrev pub all_ended : List HartCalls → CallSite → Option CallCount → Option CallCount
 all_ended [] site count = count
-all_ended (hart ∷ others) site count = all_ended others site (ended hart.steps hart.pending site count)
+all_ended (hart ∷ others) site count = all_ended others site (ended hart.done hart.pending site count)

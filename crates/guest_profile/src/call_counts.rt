@@ -9,6 +9,7 @@ ghost use Rattle.guest_profile.specs.Listed.{AreAll};
 
 use crate::call_site::{CallCount, CallSite};
 use crate::call_stack::PendingCall;
+use crate::sums::{NOTHING, Sums};
 use std::alloc::{AllocError, AllocFailed, Global};
 use std::collections::HashMap;
 
@@ -36,12 +37,12 @@ impl CallCounts {
         self.set(call, count)
     }
 
-    /// A call is over, after so many steps of its hart.
-    pub(crate) fn end(&mut self, ended: PendingCall, steps: u64) -> Result<(), AllocError>
+    /// A call is over, when its hart has done this.
+    pub(crate) fn end(&mut self, ended: PendingCall, done: Sums) -> Result<(), AllocError>
         ensures { OnOk result ((site : CallSite) → calls_of self.new site ≡
-            ended_call steps ended site (calls_of self.old site)) }
+            ended_call done ended site (calls_of self.old site)) }
     {
-        let inside = steps.saturating_sub(ended.begun);
+        let inside = done.without(ended.begun);
         let count = ended_count(inside, ended.counts, self.known(ended.call));
         self.set(ended.call, count)
     }
@@ -78,7 +79,7 @@ impl CallCounts {
             Some(count) => *count,
             None => CallCount {
                 times: 0,
-                inside: 0,
+                inside: NOTHING,
             },
         }
     }
@@ -104,13 +105,13 @@ fn begun_count(count: CallCount) -> CallCount
     }
 }
 
-/// One of the same calls is over, after so many steps, which count or do not.
-fn ended_count(inside: u64, counts: bool, count: CallCount) -> CallCount
+/// One of the same calls is over, after these steps, which count or do not.
+fn ended_count(inside: Sums, counts: bool, count: CallCount) -> CallCount
     ensures { result ≡ ended_count inside counts count }
 {
-    let added = if counts { inside } else { 0 };
+    let added = if counts { inside } else { NOTHING };
     CallCount {
         times: count.times,
-        inside: count.inside.saturating_add(added),
+        inside: count.inside.and(added),
     }
 }

@@ -2,10 +2,12 @@
 
 ghost use Rattle.std.specs.Prelude.{◌≡◌, ◌≤◌, ◌<◌, ◌+◌, ◌^◌, [], IfSome, OnOk, drop, length, take};
 ghost use Rattle.guest_profile.specs.declared.call_site.CallSite.{CallSite};
+ghost use Rattle.guest_profile.specs.Sums.{nothing};
 ghost use Rattle.guest_profile.specs.Calls.{begun, call_after, call_flowed, call_made, calls_of, counts_beside, ended, cut, ended_from, flowed, hart_after, hart_calls, held, is_sought, last_sought, last_to, level_beside, level_in, made, pending_made, place_left, place_returned, return_place, unwound};
 
 use crate::call_counts::CallCounts;
 use crate::call_site::{CallSite, Jump};
+use crate::sums::{NOTHING, Sums};
 use guest_steps::Flow;
 use std::alloc::{AllocError, AllocFailed, Global};
 
@@ -15,11 +17,11 @@ const OUTER: u32 = 1;
 /// The level of a call where one is.
 const INNER: u32 = 2;
 
-/// A call, how many steps its hart had done when it was made, and the hart's stack pointer then.
+/// A call, what its hart had done when it was made, and the hart's stack pointer then.
 #[derive(Clone, Copy, Debug)]
 pub(crate) struct PendingCall {
     pub(crate) call: CallSite,
-    pub(crate) begun: u64,
+    pub(crate) begun: Sums,
     pub(crate) sp: u32,
     /// Whether its steps count: not where a call of level 2 to the same callee was pending.
     pub(crate) counts: bool,
@@ -38,20 +40,20 @@ pub(crate) enum Sought {
     HeldAbove(u32),
 }
 
-/// The calls of a hart that have not returned, the last one last, and how many steps it has done.
+/// The calls of a hart that have not returned, the last one last, and what it has done.
 #[derive(Drop)]
 pub(crate) struct CallStack {
     pending: Vec<PendingCall>,
-    steps: u64,
+    done: Sums,
 }
 
 impl CallStack {
     pub(crate) fn new(alloc: Global) -> Self
-        ensures { hart_calls result ≡ record { pending = []; steps = 0 } }
+        ensures { hart_calls result ≡ record { pending = []; done = nothing } }
     {
         CallStack {
             pending: Vec::new(alloc),
-            steps: 0,
+            done: NOTHING,
         }
     }
 
@@ -82,7 +84,7 @@ impl CallStack {
         ensures calls { OnOk result ((site : CallSite) → calls_of counts.new site ≡
             call_after flow jump (hart_calls self.old) site (calls_of counts.old site)) }
     {
-        self.steps = self.steps.saturating_add(1);
+        self.done = self.done.and(jump.step);
         self.unwind(jump.sp, counts)?;
         self.flow(flow, jump, counts)
     }
@@ -90,9 +92,9 @@ impl CallStack {
     /// All calls are over.
     pub(crate) fn end(&mut self, counts: &mut CallCounts) -> Result<(), AllocError>
         ensures hart { OnOk result (hart_calls self.new ≡
-            record { pending = []; steps = self.old.steps }) }
+            record { pending = []; done = self.old.done }) }
         ensures calls { OnOk result ((site : CallSite) → calls_of counts.new site ≡
-            ended self.old.steps self.old.pending.items site (calls_of counts.old site)) }
+            ended self.old.done self.old.pending.items site (calls_of counts.old site)) }
     {
         self.end_from(0, counts)
     }
@@ -129,7 +131,7 @@ impl CallStack {
         ensures calls { OnOk result ((site : CallSite) → calls_of counts.new site ≡
             begun (call_made jump self.old.pending.items) site (calls_of counts.old site)) }
     {
-        let made = pending_made(self.pending.as_slice(), jump, self.steps);
+        let made = pending_made(self.pending.as_slice(), jump, self.done);
         counts.begin(made.call)?;
         self.pending.push(made).map_err(AllocError::from)?;
         Ok(())
@@ -151,18 +153,18 @@ impl CallStack {
     fn end_from(&mut self, place: usize, counts: &mut CallCounts) -> Result<(), AllocError>
         requires { place ≤ length self.old.pending.items }
         ensures hart { OnOk result (hart_calls self.new ≡
-            record { pending = take place self.old.pending.items; steps = self.old.steps }) }
+            record { pending = take place self.old.pending.items; done = self.old.done }) }
         ensures calls { OnOk result ((site : CallSite) → calls_of counts.new site ≡
-            ended self.old.steps (drop place self.old.pending.items) site
+            ended self.old.done (drop place self.old.pending.items) site
             (calls_of counts.old site)) }
     {
-        end_from(&mut self.pending, place, self.steps, counts)
+        end_from(&mut self.pending, place, self.done, counts)
     }
 }
 
-/// The call that a jump makes where these are pending, after so many steps of the hart.
-fn pending_made(pending: &[PendingCall], jump: Jump, steps: u64) -> PendingCall
-    ensures { result ≡ pending_made jump (record { pending = pending.now; steps = steps }) }
+/// The call that a jump makes where these are pending, when the hart has done this.
+fn pending_made(pending: &[PendingCall], jump: Jump, done: Sums) -> PendingCall
+    ensures { result ≡ pending_made jump (record { pending = pending.now; done = done }) }
 {
     let beside = last_to(pending, jump.target);
     PendingCall {
@@ -172,7 +174,7 @@ fn pending_made(pending: &[PendingCall], jump: Jump, steps: u64) -> PendingCall
             from_level: level_in(pending),
             level: level_beside(beside),
         },
-        begun: steps,
+        begun: done,
         sp: jump.sp,
         counts: counts_beside(beside),
     }
@@ -269,24 +271,24 @@ fn is_sought(pending: &PendingCall, sought: Sought) -> bool
     }
 }
 
-/// Of some calls those from a place on are over, the last one first, after so many steps of their hart.
+/// Of some calls those from a place on are over, the last one first, when their hart has done this.
 #[tactic(auto, using(crate::proofs::PendingCalls::ended_last, crate::proofs::PendingCalls::taken_last, crate::proofs::PendingCalls::ended_none))]
 fn end_from(
     pending: &mut Vec<PendingCall>,
     place: usize,
-    steps: u64,
+    done: Sums,
     counts: &mut CallCounts,
 ) -> Result<(), AllocError>
     requires { place ≤ length pending.old.items }
     ensures hart { OnOk result (pending.new.items ≡ take place pending.old.items) }
     ensures calls { OnOk result ((site : CallSite) → calls_of counts.new site ≡
-        ended steps (drop place pending.old.items) site (calls_of counts.old site)) }
+        ended done (drop place pending.old.items) site (calls_of counts.old site)) }
 {
     'calls: while pending.len() > place {
         let Some(last) = pending.pop() else {
             unreachable!();
         };
-        counts.end(last, steps)?;
+        counts.end(last, done)?;
     }
     Ok(())
 }

@@ -9,6 +9,7 @@ use crate::call_site::Jump;
 use crate::call_stack::CallStack;
 use crate::profile::SP;
 use crate::stacks::{depth, follow, no_stacks};
+use crate::sums::NOTHING;
 use guest_steps::{Flow, ToldStep};
 use std::alloc::{AllocError, Global};
 
@@ -38,6 +39,8 @@ impl Depths {
             site: told.before.pc(),
             target: told.after.pc(),
             sp: told.after.x(SP),
+            // The counts of calls are not asked for.
+            step: NOTHING,
         };
         follow(&mut self.stacks, told.hart, flow, jump, &mut self.calls)
     }

@@ -12,6 +12,7 @@ use crate::call_site::{CallCount, CallSite, Jump};
 use crate::call_stack::CallStack;
 use crate::insn_counts::InsnCounts;
 use crate::stacks::{end_all, follow, level, no_stacks};
+use crate::sums::Sums;
 use crate::used_pages::UsedPages;
 use guest_steps::{ToldStep, access_of, flow_of};
 use rv_isa::decode;
@@ -58,12 +59,13 @@ impl Profile {
         let Some(insn) = decode(word) else {
             return Ok(());
         };
-        let kept = insn;
+        let (kept, again) = (insn, insn);
         self.pages.mark(access_of(before, kept))?;
         let jump = Jump {
             site: pc,
             target: next,
             sp: told.after.x(SP),
+            step: Sums::of_step(again, is_taken),
         };
         let flow = flow_of(insn);
         follow(&mut self.stacks, told.hart, flow, jump, &mut self.calls)?;

@@ -7,8 +7,8 @@ abbrev pub invariant-calls : goal.invariant-calls
 invariant-calls l = record {
   within : l.place ≤ length l.pending.items;
   kept : take l.place l.pending.items ≡ take l.place l.fn.pending.items;
-  counted : (site : CallSite) → ended l.steps (drop l.place l.pending.items) site (calls_of l.counts site)
-      ≡ ended l.steps (drop l.place l.fn.pending.items) site (calls_of l.fn.counts site);
+  counted : (site : CallSite) → ended l.done (drop l.place l.pending.items) site (calls_of l.counts site)
+      ≡ ended l.done (drop l.place l.fn.pending.items) site (calls_of l.fn.counts site);
 }
 
 abbrev pub decreases-calls : goal.decreases-calls

@@ -22,6 +22,6 @@ harts-preserved c =
       rest = ap (drop (place + 1)) after ∙ rest_more harts now place hart within kept.rest at;
       counted = λ site.
           one.calls site
-          ∙ ap (ended hart.steps hart.pending site) (kept.counted site)
+          ∙ ap (ended hart.done hart.pending site) (kept.counted site)
           ∙ sym (calls_more harts now place hart site _ within kept.rest at);
     }

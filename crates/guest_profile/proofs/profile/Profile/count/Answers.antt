@@ -3,6 +3,7 @@ use Rattle.guest_profile.specs.declared.call_site.Jump.{Jump}
 use Rattle.guest_profile.specs.Calls.{HartCalls, calls_of, followed, hart_call_after, hart_calls, hart_level}
 use Rattle.guest_profile.specs.Counting.{counted, counts_of}
 use Rattle.guest_profile.specs.Pages.{used_by}
+use Rattle.guest_profile.specs.Sums.{step_of}
 use Rattle.guest_profile.specs.UsedPagesOf.{use_of}
 use Rattle.guest_profile.proofs.CountedSteps.{no_word, no_insn, insn_counted}
 use Rattle.guest_profile.proofs.profile.Profile.count.Goals as goal
@@ -28,7 +29,7 @@ returns c = λ account kept.
     (λ at. c.in_ok-count.ensures at ∙ (λ i. counted (c.pc-pc.ensures i) c.in-Ok.word (not (c.pc-next.ensures i == c.next_pc.ensures i)) (level i == 2) at (counts_of c.args.self.now.insns at)))
     (λ site.
     c.in_ok-follow.ensures.calls site
-    ∙ (λ i. let jump : Jump = record { site = c.pc-pc.ensures i; target = c.pc-next.ensures i; sp = c.x.ensures i } in hart_call_after (slice_get harts hart) (c.flow_of-flow.ensures i) jump site (calls_of c.args.self.now.calls site)))
+    ∙ (λ i. let jump : Jump = record { site = c.pc-pc.ensures i; target = c.pc-next.ensures i; sp = c.x.ensures i; step = (c.of_step.ensures ∙ (λ j. step_of c.in-Some.insn (not (c.pc-next.ensures j == c.next_pc.ensures j)))) i } in hart_call_after (slice_get harts hart) (c.flow_of-flow.ensures i) jump site (calls_of c.args.self.now.calls site)))
     (λ page. c.in_ok-mark.ensures page ∙ (λ i. used_by (c.access_of.ensures i) page (use_of c.args.self.now.pages page)))
-    (c.in_ok-follow.ensures.harts ∙ (λ i. let jump : Jump = record { site = c.pc-pc.ensures i; target = c.pc-next.ensures i; sp = c.x.ensures i } in followed hart (c.flow_of-flow.ensures i) jump harts))
+    (c.in_ok-follow.ensures.harts ∙ (λ i. let jump : Jump = record { site = c.pc-pc.ensures i; target = c.pc-next.ensures i; sp = c.x.ensures i; step = (c.of_step.ensures ∙ (λ j. step_of c.in-Some.insn (not (c.pc-next.ensures j == c.next_pc.ensures j)))) i } in followed hart (c.flow_of-flow.ensures i) jump harts))
     kept

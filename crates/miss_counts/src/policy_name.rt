@@ -100,7 +100,11 @@ fn write_two_queues<W: fmt::Write>(
 fn write_lirs<W: fmt::Write>(shares: LirsShares, f: &mut fmt::Formatter<W>) -> fmt::Result {
     let usual = LirsShares::USUAL;
     write_part("hirs", u64::from(shares.hirs), u64::from(usual.hirs), f)?;
-    write_part("floor", u64::from(shares.floor), u64::from(usual.floor), f)
+    write_part("floor", u64::from(shares.floor), u64::from(usual.floor), f)?;
+    match shares.stack {
+        Some(stack) => write!(f, ":stack={stack}"),
+        None => Ok(()),
+    }
 }
 
 fn write_s3_fifo<W: fmt::Write>(shares: S3FifoShares, f: &mut fmt::Formatter<W>) -> fmt::Result {

@@ -38,7 +38,8 @@ pub(crate) fn policy_named(name: &str) -> Option<PolicyName> {
 pub(crate) fn parts_of(policy: PolicyName) -> &'static str {
     match policy {
         PolicyName::TwoQueues(_) => "kin from 0 to 99, kout from 0 to 1000",
-        PolicyName::Lirs(_) => "hirs from 0 to 99, floor from 1 to 1000",
+        PolicyName::Lirs(_) =>
+            "hirs from 0 to 99, floor from 1 to 1000, stack from 100 to 100000 or none",
         PolicyName::S3Fifo(_) => "small from 1 to 99, ghost from 0 to 1000, moved keep or clear",
         PolicyName::WTinyLfu(_) => {
             "window and protected from 0 to 100, width 1 or 4, sample from 1 to 1000"
@@ -76,13 +77,23 @@ fn lirs_with(shares: LirsShares, name: &str, value: &str) -> Option<PolicyName> 
     let LirsShares {
         mut hirs,
         mut floor,
+        mut stack,
     } = shares;
     match name {
         "hirs" => hirs = within(value, LirsShares::HIRS)?,
         "floor" => floor = within(value, LirsShares::FLOOR)?,
+        "stack" => stack = stack_bound(value)?,
         _ => return None,
     }
-    Some(PolicyName::Lirs(LirsShares { hirs, floor }))
+    Some(PolicyName::Lirs(LirsShares { hirs, floor, stack }))
+}
+
+/// A bound, or that there is none.
+fn stack_bound(value: &str) -> Option<Option<u32>> {
+    if value == "none" {
+        return Some(None);
+    }
+    Some(Some(within(value, LirsShares::STACK)?))
 }
 
 fn s3_fifo_with(shares: S3FifoShares, name: &str, value: &str) -> Option<PolicyName> {

@@ -10,7 +10,7 @@ use Rattle.page_policies.specs.PartLaws.{number_append, holds_append, there_firs
 use Rattle.younger_policies.specs.TwoQueues.{out_with}
 use Rattle.younger_policies.specs.declared.lirs_shares.LirsShares.{LirsShares}
 use Rattle.younger_policies.specs.declared.lirs_shares.LirsRooms.{LirsRooms}
-use Rattle.younger_policies.specs.Lirs.{LirsState, most_lir, rooms_of, is_bottom_lir, pruned, demoted, made_lir, kept_hir, promoted, becomes_lir, placed, room_made, lir_used, hir_used, in_lirs, lirs, lirs_misses}
+use Rattle.younger_policies.specs.Lirs.{LirsState, most_lir, rooms_of, is_bottom_lir, is_over, apart, without_bottom, pruned, demoted, made_lir, kept_hir, promoted, becomes_lir, cut, placed, gone_with, room_made, lir_used, hir_used, in_lirs, lirs, lirs_misses}
 
 -- the pages in frames
 abbrev pages : LirsState → List Key
@@ -38,10 +38,9 @@ record Same (s t : LirsState) : Type 0 where
 
 prunes : (n : ℕ) (s : LirsState) → Same s (pruned n s)
 prunes zero s = record { lir = refl; queue = refl }
-prunes (suc n) s = elim (is_bottom_lir (last_of s.stack) s) as (λ b. Same s (cond b s (pruned n (record { lir = s.lir; stack = but_last s.stack; queue = s.queue })))) [
+prunes (suc n) s = elim (is_bottom_lir (last_of s.stack) s) as (λ b. Same s (cond b s (pruned n (without_bottom s)))) [
   | true ↦ record { lir = refl; queue = refl }
-  | false ↦ let later : Same (record { lir = s.lir; stack = but_last s.stack; queue = s.queue }) (pruned n (record { lir = s.lir; stack = but_last s.stack; queue = s.queue })) =
-      prunes n (record { lir = s.lir; stack = but_last s.stack; queue = s.queue }) in record { lir = later.lir; queue = later.queue }
+  | false ↦ let later : Same (without_bottom s) (pruned n (without_bottom s)) = prunes n (without_bottom s) in record { lir = later.lir; queue = later.queue }
 ]
 
 -- A page that goes from the LIR list to the queue: all pages are there, and none more often.
@@ -52,7 +51,7 @@ record Moves (r : LirsRooms) (s t : LirsState) : Type 0 where
   kept : (p : Key) → 1 ≤ number (is_page p) s.lir → holds p (pages t) ≡ true
   bound : length s.lir ≤ r.most_lir + 1 → length t.lir ≤ r.most_lir
 
-moves_out : (r : LirsRooms) (s : LirsState) (o : Option Key) → last_of s.lir ≡ o → r.most_lir < length s.lir → Moves r s (record { lir = but_last s.lir; stack = s.stack; queue = out_with o s.queue })
+moves_out : (r : LirsRooms) (s : LirsState) (o : Option Key) → last_of s.lir ≡ o → r.most_lir < length s.lir → Moves r s (record { lir = but_last s.lir; stack = s.stack; queue = out_with o s.queue; gone = s.gone })
 moves_out r s None is full = absurd (let e : length s.lir ≡ 0 = none_last s.lir is in omega (arith, e, full))
 moves_out r s (Some b) is full =
     let e : length (but_last s.lir) ≡ length s.lir - 1 = length_but_last s.lir in
@@ -70,7 +69,7 @@ moves_out r s (Some b) is full =
     }
 
 demotes : (r : LirsRooms) (s : LirsState) → Moves r s (demoted r s)
-demotes r s = elim (nat_lt r.most_lir (length s.lir)) as (λ b. nat_lt r.most_lir (length s.lir) ≡ b → Moves r s (cond b (record { lir = but_last s.lir; stack = s.stack; queue = out_with (last_of s.lir) s.queue }) s)) [
+demotes r s = elim (nat_lt r.most_lir (length s.lir)) as (λ b. nat_lt r.most_lir (length s.lir) ≡ b → Moves r s (cond b (record { lir = but_last s.lir; stack = s.stack; queue = out_with (last_of s.lir) s.queue; gone = s.gone }) s)) [
   | true ↦ λ h. moves_out r s (last_of s.lir) refl (less r.most_lir (length s.lir) h)
   | false ↦ λ h. record {
     some = omega arith;
@@ -114,15 +113,27 @@ promotes r p s lawful =
           let h : number test (to_front p s.lir) ≤ number test s.lir + cond (test p) 1 0 = number_front test p s.lir in omega (arith, e, f, g, h);
     }
 
+-- the stack alone is cut
+abbrev stack_cut : LirsState → LirsState
+stack_cut s = record { lir = s.lir; stack = apart (last_of s.gone) s.stack; queue = s.queue; gone = but_last s.gone }
+
 places : (r : LirsRooms) (p : Key) (s : LirsState) → Lawful r s → Places r p s (placed r p s)
-places r p s lawful = elim (becomes_lir r p s) as (λ b. Places r p s (cond b (promoted r p s) (kept_hir p s))) [
+places r p s lawful = elim (becomes_lir r p s) as (λ b. Places r p s (cond b (promoted r p s) (cut r (kept_hir p s)))) [
   | true ↦ promotes r p s lawful
-  | false ↦ record {
-    there = there_second p s.lir (to_front p s.queue) (front_there p s.queue);
-    some = lawful.some;
-    few = omega arith;
-    from = λ test. omega arith;
-  }
+  | false ↦ elim (is_over r.most_stack (length (kept_hir p s).stack)) as (λ b. Places r p s (cond b (stack_cut (kept_hir p s)) (kept_hir p s))) [
+    | true ↦ record {
+      there = there_second p s.lir (to_front p s.queue) (front_there p s.queue);
+      some = lawful.some;
+      few = omega arith;
+      from = λ test. omega arith;
+    }
+    | false ↦ record {
+      there = there_second p s.lir (to_front p s.queue) (front_there p s.queue);
+      some = lawful.some;
+      few = omega arith;
+      from = λ test. omega arith;
+    }
+  ]
 ]
 
 -- room for one page
@@ -131,8 +142,8 @@ record Room (r : LirsRooms) (s t : LirsState) : Type 0 where
   few : room t < r.frames
   fewer : (test : Key → Bool) → count test t ≤ count test s
 
-room_is : (r : LirsRooms) (s : LirsState) → r.most_lir < r.frames → Lawful r s → Room r s (room_made r.frames s)
-room_is r s some lawful = elim (nat_lt (room s) r.frames) as (λ b. nat_lt (room s) r.frames ≡ b → Room r s (cond b s (record { lir = s.lir; stack = s.stack; queue = but_last s.queue }))) [
+room_is : (r : LirsRooms) (s : LirsState) → r.most_lir < r.frames → Lawful r s → Room r s (room_made r s)
+room_is r s some lawful = elim (nat_lt (room s) r.frames) as (λ b. nat_lt (room s) r.frames ≡ b → Room r s (cond b s (record { lir = s.lir; stack = s.stack; queue = but_last s.queue; gone = gone_with r (last_of s.queue) s }))) [
   | true ↦ λ h. record { some = lawful.some; few = less (room s) r.frames h; fewer = λ test. omega arith }
   | false ↦ λ h.
       let full : r.frames ≤ room s = most (room s) r.frames h in
@@ -151,7 +162,7 @@ room_is r s some lawful = elim (nat_lt (room s) r.frames) as (λ b. nat_lt (room
 
 used_lir : (r : LirsRooms) (p : Key) (s : LirsState) → Lawful r s → holds p s.lir ≡ true → true ≡ in_lirs p s → Serves r.frames pages (Lawful r) in_lirs p s (lir_used p s)
 used_lir r p s lawful h is =
-    let same : Same (record { lir = to_front p s.lir; stack = to_front p s.stack; queue = s.queue }) (lir_used p s) = prunes (length (to_front p s.stack)) (record { lir = to_front p s.lir; stack = to_front p s.stack; queue = s.queue }) in
+    let same : Same (record { lir = to_front p s.lir; stack = to_front p s.stack; queue = s.queue; gone = s.gone }) (lir_used p s) = prunes (length (to_front p s.stack)) (record { lir = to_front p s.lir; stack = to_front p s.stack; queue = s.queue; gone = s.gone }) in
     let l : length (to_front p s.lir) ≡ length s.lir = length_moved p s.lir h in
     let e : length (lir_used p s).lir ≡ length (to_front p s.lir) = ap length same.lir in
     let f : length (lir_used p s).queue ≡ length s.queue = ap length same.queue in
@@ -188,31 +199,31 @@ used_hir r p s lawful h is =
       lawful_after = record { some = there.some; few = omega (arith, f, l, few) };
     }
 
-missed : (r : LirsRooms) (p : Key) (s : LirsState) → r.most_lir < r.frames → Lawful r s → false ≡ in_lirs p s → Serves r.frames pages (Lawful r) in_lirs p s (placed r p (room_made r.frames s))
+missed : (r : LirsRooms) (p : Key) (s : LirsState) → r.most_lir < r.frames → Lawful r s → false ≡ in_lirs p s → Serves r.frames pages (Lawful r) in_lirs p s (placed r p (room_made r s))
 missed r p s one lawful out =
-    let t : Room r s (room_made r.frames s) = room_is r s one lawful in
-    let some : length (room_made r.frames s).lir ≤ r.most_lir = t.some in
-    let less : room (room_made r.frames s) < r.frames = t.few in
-    let there : Places r p (room_made r.frames s) (placed r p (room_made r.frames s)) = places r p (room_made r.frames s) (record { some = some; few = omega (arith, less) }) in
-    let l : length (to_front p (room_made r.frames s).queue) ≤ length (room_made r.frames s).queue + 1 = length_front p (room_made r.frames s).queue in
-    let f : room (placed r p (room_made r.frames s)) ≤ length (room_made r.frames s).lir + length (to_front p (room_made r.frames s).queue) = there.few in
+    let t : Room r s (room_made r s) = room_is r s one lawful in
+    let some : length (room_made r s).lir ≤ r.most_lir = t.some in
+    let less : room (room_made r s) < r.frames = t.few in
+    let there : Places r p (room_made r s) (placed r p (room_made r s)) = places r p (room_made r s) (record { some = some; few = omega (arith, less) }) in
+    let l : length (to_front p (room_made r s).queue) ≤ length (room_made r s).queue + 1 = length_front p (room_made r s).queue in
+    let f : room (placed r p (room_made r s)) ≤ length (room_made r s).lir + length (to_front p (room_made r s).queue) = there.few in
     record {
       found = found p s;
-      leaves = miss_leaves r.frames p (pages s) (pages (placed r p (room_made r.frames s))) (out ∙ found p s) there.there
-          (let z : length (pages (placed r p (room_made r.frames s))) ≡ room (placed r p (room_made r.frames s)) = size (placed r p (room_made r.frames s)) in omega (arith, z, f, l, less))
+      leaves = miss_leaves r.frames p (pages s) (pages (placed r p (room_made r s))) (out ∙ found p s) there.there
+          (let z : length (pages (placed r p (room_made r s))) ≡ room (placed r p (room_made r s)) = size (placed r p (room_made r s)) in omega (arith, z, f, l, less))
           (λ test.
-          let a : number test (pages (placed r p (room_made r.frames s))) ≡ count test (placed r p (room_made r.frames s)) = counted test (placed r p (room_made r.frames s)) in
+          let a : number test (pages (placed r p (room_made r s))) ≡ count test (placed r p (room_made r s)) = counted test (placed r p (room_made r s)) in
           let b : number test (pages s) ≡ count test s = counted test s in
-          let c : count test (placed r p (room_made r.frames s)) ≤ number test (room_made r.frames s).lir + number test (to_front p (room_made r.frames s).queue) = there.from test in
-          let d : count test (room_made r.frames s) ≤ count test s = t.fewer test in
-          let k : number test (to_front p (room_made r.frames s).queue) ≤ number test (room_made r.frames s).queue + cond (test p) 1 0 = number_front test p (room_made r.frames s).queue in omega (arith, a, b, c, d, k));
+          let c : count test (placed r p (room_made r s)) ≤ number test (room_made r s).lir + number test (to_front p (room_made r s).queue) = there.from test in
+          let d : count test (room_made r s) ≤ count test s = t.fewer test in
+          let k : number test (to_front p (room_made r s).queue) ≤ number test (room_made r s).queue + cond (test p) 1 0 = number_front test p (room_made r s).queue in omega (arith, a, b, c, d, k));
       lawful_after = record { some = there.some; few = omega (arith, f, l, less) };
     }
 
 serves : (r : LirsRooms) → r.most_lir < r.frames → (p : Key) (s : LirsState) → Lawful r s → Serves r.frames pages (Lawful r) in_lirs p s (lirs r p s)
 serves r one p s lawful = elim (holds p s.lir) as (λ b. holds p s.lir ≡ b → cond b true (holds p s.queue) ≡ in_lirs p s → Serves r.frames pages (Lawful r) in_lirs p s (cond b (lir_used p s) (hir_used r p s))) [
   | true ↦ λ h is. used_lir r p s lawful h is
-  | false ↦ λ h is. elim (holds p s.queue) as (λ b. holds p s.queue ≡ b → b ≡ in_lirs p s → Serves r.frames pages (Lawful r) in_lirs p s (placed r p (cond b s (room_made r.frames s)))) [
+  | false ↦ λ h is. elim (holds p s.queue) as (λ b. holds p s.queue ≡ b → b ≡ in_lirs p s → Serves r.frames pages (Lawful r) in_lirs p s (placed r p (cond b s (room_made r s)))) [
     | true ↦ λ g is. used_hir r p s lawful g is
     | false ↦ λ g is. missed r p s one lawful is
   ] refl is
@@ -231,4 +242,4 @@ pub lirs_played : (shares : LirsShares) → 1 ≤ shares.floor → IsPlayed (lir
 unfolding lirs_misses
 lirs_played shares least frames string some =
     served_plays frames pages (Lawful (rooms_of shares frames)) in_lirs (lirs (rooms_of shares frames)) (serves (rooms_of shares frames) (most_below frames (frames * shares.hirs / 100) shares.floor some least))
-    (record { lir = []; stack = []; queue = [] }) string (record { some = omega arith; few = omega arith })
+    (record { lir = []; stack = []; queue = []; gone = [] }) string (record { some = omega arith; few = omega arith })

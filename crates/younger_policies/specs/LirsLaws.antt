@@ -2,15 +2,16 @@
 use Rattle.std.specs.Prelude.{◌≡◌, ℕ, suc, ◌+◌, ◌-◌, ◌<◌, Bool, true, false, cond, List}
 use Rattle.std.proofs.Common.{arith, sym, ap, ◌∙◌}
 use Rattle.clock_policy.specs.declared.key.Key.{Key}
-use Rattle.page_policies.specs.Ordered.{last_of, but_last}
-use Rattle.younger_policies.specs.Lirs.{LirsState, is_bottom_lir, pruned}
+use Rattle.page_policies.specs.Ordered.{last_of}
+use Rattle.younger_policies.specs.Lirs.{LirsState, is_bottom_lir, without_bottom, pruned}
 use Rattle.younger_policies.specs.declared.lirs.Lirs.{Lirs}
 
 abbrev pub lists_of : Lirs → LirsState
-lists_of s = record { lir = s.lir; stack = s.stack; queue = s.queue }
+lists_of s = record { lir = s.lir; stack = s.stack; queue = s.queue; gone = s.gone }
 
-abbrev pub without_bottom : LirsState → LirsState
-without_bottom s = record { lir = s.lir; stack = but_last s.stack; queue = s.queue }
+-- with other pages that are in no frame
+abbrev pub with_gone : List Key → LirsState → LirsState
+with_gone gone s = record { lir = s.lir; stack = s.stack; queue = s.queue; gone = gone }
 
 pub pruned_more : (n i : ℕ) (s t : LirsState) → i < n → false ≡ is_bottom_lir (last_of s.stack) s → t ≡ without_bottom s → pruned (n - (i + 1)) t ≡ pruned (n - i) s
 pruned_more n i s t h lir is =

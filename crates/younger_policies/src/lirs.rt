@@ -1,13 +1,13 @@
 //! LIRS.
 
-ghost use Rattle.std.specs.Prelude.{◌≡◌, ◌+◌, ◌<◌, refl, cond, length, nat_lt, List, IfOk, OnOk};
+ghost use Rattle.std.specs.Prelude.{◌≡◌, ◌+◌, ◌<◌, refl, cond, length, nat_lt, List, Some, IfOk, OnOk};
 ghost use Rattle.clock_policy.specs.declared.key.Key.{Key};
-ghost use Rattle.page_policies.specs.Strings.{holds, misses as misses_by};
+ghost use Rattle.page_policies.specs.Strings.{holds, without, misses as misses_by};
 ghost use Rattle.page_policies.specs.Ordered.{last_of, to_front};
-ghost use Rattle.younger_policies.specs.Lirs.{is_bottom_lir, pruned, demoted, made_lir, rooms_of};
-ghost use Rattle.younger_policies.specs.Lirs.{kept_hir, promoted, becomes_lir, placed, room_made};
+ghost use Rattle.younger_policies.specs.Lirs.{is_bottom_lir, without_bottom, pruned, demoted, made_lir, rooms_of};
+ghost use Rattle.younger_policies.specs.Lirs.{kept_hir, promoted, becomes_lir, cut, gone_with, is_over, placed, room_made};
 ghost use Rattle.younger_policies.specs.Lirs.{lir_used, hir_used, in_lirs, lirs, lirs_misses, usual_shares};
-ghost use Rattle.younger_policies.specs.LirsLaws.{lists_of, without_bottom};
+ghost use Rattle.younger_policies.specs.LirsLaws.{lists_of, with_gone};
 
 use crate::lirs_shares::{LirsRooms, LirsShares};
 use clock_policy::Key;
@@ -15,7 +15,7 @@ use page_policies::{Frames, HitOrMiss, Policy, PolicyRefusal, Queue};
 use std::alloc::{AllocError, Global};
 
 /// LIRS: pages that come back soon (LIR) keep nearly all frames, and the others (HIR) go through the few that are left; a stack of
-/// recency tells which is which. It remembers pages that left as long as they are in the stack.
+/// recency tells which is which. It remembers pages that left as long as they are in the stack, which may have a bound.
 #[derive(Drop)]
 pub struct Lirs {
     rooms: LirsRooms,
@@ -25,6 +25,8 @@ pub struct Lirs {
     stack: Queue,
     /// the HIR pages in frames
     queue: Queue,
+    /// the pages of the stack that are in no frame, in its order, if it has a bound
+    gone: Queue,
 }
 
 /// The page comes to the front of the stack, in which it mostly is.
@@ -35,6 +37,15 @@ fn renew(stack: &mut Queue, page: Key) -> Result<(), AllocError>
         return Ok(());
     }
     stack.push(page)
+}
+
+/// The page is taken out. Most often there are none at all.
+fn forget(gone: &mut Queue, page: Key)
+    ensures { gone.new ≡ without page gone.old }
+{
+    if gone.len() > 0 {
+        gone.remove(page);
+    }
 }
 
 impl Lirs {
@@ -53,6 +64,7 @@ impl Lirs {
             lir: Queue::new(alloc)?,
             stack: Queue::new(alloc)?,
             queue: Queue::new(alloc)?,
+            gone: Queue::new(alloc)?,
         })
     }
 
@@ -71,7 +83,9 @@ impl Lirs {
         ensures lists { lists_of self.new ≡ without_bottom (lists_of self.old) }
         ensures rooms { self.new.rooms ≡ self.old.rooms }
     {
-        self.stack.pop();
+        if let Some(page) = self.stack.pop() {
+            forget(&mut self.gone, page);
+        }
     }
 
     /// HIR pages at the bottom of the stack are forgotten, so many at most.
@@ -109,6 +123,7 @@ impl Lirs {
         self.lir.push(page)?;
         self.stack.push(page)?;
         self.queue.remove(page);
+        forget(&mut self.gone, page);
         Ok(())
     }
 
@@ -144,6 +159,28 @@ impl Lirs {
         self.stack.contains(page)
     }
 
+    /// Whether the stack has more pages than its bound.
+    fn is_over(&self) -> bool
+        ensures { result ≡ is_over self.now.rooms.most_stack (length self.now.stack) }
+    {
+        match self.rooms.most_stack {
+            Some(most) => most < self.stack.len(),
+            None => false,
+        }
+    }
+
+    /// Where the stack is over its bound the lowest of its pages that are in no frame leaves it.
+    fn cut(&mut self)
+        ensures lists { lists_of self.new ≡ cut self.old.rooms (lists_of self.old) }
+        ensures rooms { self.new.rooms ≡ self.old.rooms }
+    {
+        if self.is_over() {
+            if let Some(page) = self.gone.pop() {
+                self.stack.remove(page);
+            }
+        }
+    }
+
     /// A page that is no LIR page is used, and there is room for it.
     fn place(&mut self, page: Key) -> Result<(), AllocError>
         ensures lists { OnOk result (lists_of self.new ≡ placed self.old.rooms page (lists_of
@@ -153,19 +190,40 @@ impl Lirs {
         if self.becomes_lir(page) {
             self.promote(page)
         } else {
-            self.keep_hir(page)
+            self.keep_hir(page)?;
+            self.cut();
+            Ok(())
         }
     }
 
+    /// A page has left its frame. It is remembered as one in no frame where the stack has a bound and the page is in it.
+    fn note_gone(&mut self, page: Key) -> Result<(), AllocError>
+        ensures lists { OnOk result (lists_of self.new ≡ with_gone (gone_with self.old.rooms (Some
+            page) (lists_of self.old)) (lists_of self.old)) }
+        ensures rooms { self.new.rooms ≡ self.old.rooms }
+    {
+        if self.rooms.most_stack.is_none() {
+            return Ok(());
+        }
+        if !self.stack.contains(page) {
+            return Ok(());
+        }
+        self.gone.push(page)
+    }
+
     /// Room for one page.
-    fn make_room(&mut self)
-        ensures lists { lists_of self.new ≡ room_made self.old.rooms.frames (lists_of self.old) }
+    fn make_room(&mut self) -> Result<(), AllocError>
+        ensures lists { OnOk result (lists_of self.new ≡ room_made self.old.rooms (lists_of
+            self.old)) }
         ensures rooms { self.new.rooms ≡ self.old.rooms }
     {
         if self.lir.len() + self.queue.len() < self.rooms.frames {
-            return;
+            return Ok(());
         }
-        self.queue.pop();
+        match self.queue.pop() {
+            Some(page) => self.note_gone(page),
+            None => Ok(()),
+        }
     }
 
     /// The page is used where it is an LIR page. Whether it is.
@@ -198,7 +256,7 @@ impl Lirs {
             self.place(page)?;
             return Ok(true);
         }
-        self.make_room();
+        self.make_room()?;
         self.place(page)?;
         Ok(false)
     }

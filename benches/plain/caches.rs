@@ -137,15 +137,30 @@ pub mod indexmap {
         values: Vec<T>,
     }
 
-    impl<T: Hash + Eq + Copy> IndexSet<T> {
+    impl<T: Hash + Eq> IndexSet<T> {
         pub fn new(_: Global) -> Self {
             IndexSet { places: HashMap::new(), values: Vec::new() }
         }
 
         pub fn len(&self) -> usize {
-            self.values.len()
+            self.places.len()
+        }
+    }
+
+    /// A set of texts, from which none goes.
+    impl IndexSet<crate::prelude::Vec<u8>> {
+        pub fn get_index_of(&self, value: &[u8]) -> Option<usize> {
+            self.places.get(value).copied()
         }
 
+        pub fn insert_full(&mut self, value: crate::prelude::Vec<u8>) -> Result<(usize, bool), AllocError> {
+            let next = self.places.len();
+            let place = *self.places.entry(value).or_insert(next);
+            Ok((place, place == next))
+        }
+    }
+
+    impl<T: Hash + Eq + Copy> IndexSet<T> {
         pub fn contains(&self, value: &T) -> bool {
             self.places.contains_key(value)
         }

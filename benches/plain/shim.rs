@@ -772,8 +772,14 @@ pub mod vec {
     use std::ops::{Deref, DerefMut, Index, IndexMut};
 
     /// A vector whose indices are not tested: that they are in range is proved.
-    #[derive(Clone, Debug, PartialEq, Eq)]
+    #[derive(Clone, Debug, PartialEq, Eq, Hash)]
     pub struct Vec<T>(pub std::vec::Vec<T>);
+
+    impl<T> std::borrow::Borrow<[T]> for Vec<T> {
+        fn borrow(&self) -> &[T] {
+            &self.0
+        }
+    }
 
     impl<T> Vec<T> {
         pub fn new(_: Global) -> Self {

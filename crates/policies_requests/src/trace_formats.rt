@@ -3,7 +3,7 @@
 use crate::fault::RequestFault;
 use clap::ArgMatches;
 use text_lines::numeral;
-use trace_files::{IdColumn, TraceFormat};
+use trace_files::{IdColumn, IdKind, TraceFormat};
 
 /// What `--format` may be.
 const FORMATS: &str = "text, csv, oraclegeneral, lackey or dynamorio";
@@ -54,6 +54,7 @@ fn id_column<'a>(format: TraceFormat, list: &'a str) -> Result<IdColumn, Request
         Some(place) => Ok(IdColumn {
             place,
             separator: None,
+            ids: IdKind::Unknown,
         }),
         None => Err(RequestFault::Value("columns", list, COLUMNS)),
     }

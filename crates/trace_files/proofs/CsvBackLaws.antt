@@ -15,7 +15,9 @@ use Rattle.trace_lines.specs.Ids.{id_in, written_below}
 use Rattle.trace_lines.proofs.IdLaws.{number_told}
 use Rattle.trace_lines.specs.PageIds.{id_of, page_of_id}
 use Rattle.trace_lines.specs.PageLines.{IsPage}
-use Rattle.trace_lines.specs.Columns.{is_id_name, separator_from, fields_from, fields_of, trimmed, is_quoted, unquoted, field_text, place_of_ids, column_of_ids, column_page}
+use Rattle.trace_lines.specs.Columns.{is_id_name, separator_from, fields_from, fields_of, trimmed, is_quoted, unquoted, field_text, place_of_ids, column_of_ids, column_page, column_text, is_first_word}
+use Rattle.trace_lines.specs.Lines.{column_said, page_or, to_page, with_ids, word_said}
+use Rattle.trace_lines.specs.declared.format.IdKind.TheVariants.{Numbers}
 use Rattle.trace_lines.proofs.ColumnLaws.{take_whole}
 use Rattle.trace_files.specs.Written.{csv_row, header, written_column}
 use Rattle.trace_files.proofs.ReadBackLaws.{Lacks, lacks_both, lacks_digits, other_byte, not_hexadecimal, page_back}
@@ -95,7 +97,7 @@ row_is time page =
     ∙ append_assoc (decimal time) (44 ∷ []) (decimal (id_of page) ++ 44 ∷ 49 ∷ [])
 
 pub row_read : (time : ℕ) (page : Key) → time < 2 ^ 64 → IsPage page → column_page written_column (csv_row time page) ≡ Some page
-unfolding column_page
+unfolding column_page column_text
 row_read time page short h =
     let process = h.process in
     let vpn = h.vpn in
@@ -107,10 +109,18 @@ row_read time page short h =
     ∙ field_before (decimal time) (decimal (id_of page) ++ 44 ∷ 49 ∷ []) first
     ∙ ap (λ (l : List (List ℕ)). decimal time ∷ l) (field_before (decimal (id_of page)) (49 ∷ []) second) in
     let text : field_text (decimal (id_of page)) ≡ decimal (id_of page) = ap unquoted (not_trimmed (decimal (id_of page)) second) ∙ not_quoted (decimal (id_of page)) second in
-    ap (λ (l : List (List ℕ)). option_and_then (λ field. option_map page_of_id (id_in (field_text field))) (slice_get l 1)) fields
+    ap (λ (l : List (List ℕ)). option_and_then (λ text. option_map page_of_id (id_in text)) (option_map field_text (slice_get l 1))) fields
     ∙ ap (λ (l : List ℕ). option_map page_of_id (id_in l)) text
     ∙ ap (option_map page_of_id) (id_read (id_of page) small)
     ∙ ap (λ (p : Key). Some p) (page_back page h)
+
+-- so that its line says that page, be it the first or a later one
+pub row_said : (time : ℕ) (page : Key) → time < 2 ^ 64 → IsPage page → column_said written_column (csv_row time page) ≡ Some (to_page page)
+row_said time page short h = ap (page_or (word_said is_first_word (column_text written_column (csv_row time page)))) (row_read time page short h)
+
+pub later_row_said : (time : ℕ) (page : Key) → time < 2 ^ 64 → IsPage page → column_said (with_ids Numbers written_column) (csv_row time page) ≡ Some (to_page page)
+unfolding column_page column_text
+later_row_said time page short h = ap (option_map to_page) (row_read time page short h)
 
 -- the line of names names the column
 pub header_read : column_of_ids header ≡ Some written_column

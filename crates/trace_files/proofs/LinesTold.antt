@@ -2,17 +2,19 @@
 use Rattle.std.proofs.Common.{◌≡◌, ◌∙◌, ℕ, true, false, List, ◌∷◌, Option, None, Some, IfSome, ap, refl, sym}
 use Rattle.std.specs.Option.{option_map}
 use Rattle.trace_files.proofs.Telling.{piece_breaks, pieces_over}
-use Rattle.trace_lines.specs.Lines.{csv_behind, format_behind, said}
-use Rattle.trace_files.specs.References.{Breaks, counted, flaw_of, is_of_addresses, line_given, line_or, lines, pieces_of}
+use Rattle.trace_lines.specs.Lines.{csv_behind, format_behind, said, word_of}
+use Rattle.trace_files.specs.References.{Trace, Breaks, counted, flaw_of, is_of_addresses, line_given, line_or, resolved_or, words_after, lines, pieces_of}
 use Rattle.trace_files.specs.ReferenceAnswers.{BreaksBy, IsOver, Passes, TakesPiece}
 use Rattle.trace_files.specs.declared.fault.TraceFault.{TraceFault}
 use Rattle.trace_lines.specs.declared.format.TraceFormat.{TraceFormat}
 use Rattle.trace_lines.specs.declared.format.TraceFormat.TheVariants.{Text, Csv, Columns, OracleGeneral, Lackey, DynamoRio}
 use Rattle.trace_lines.specs.declared.trace_line.TraceLine.{TraceLine}
-use Rattle.trace_lines.specs.declared.trace_line.TraceLine.TheVariants.{Refers, LeftOut, Names}
+use Rattle.trace_lines.specs.declared.trace_line.TraceLine.TheVariants.{Refers, Word, LeftOut, Names}
+use Rattle.trace_files.specs.WordNumbers.{resolved, words_behind}
 
 same_table : (line : TraceLine) (bytes : List ℕ) → pieces_of (csv_behind (Some line)) bytes ≡ pieces_of Csv bytes
 same_table (Refers line) bytes = refl
+same_table Word bytes = refl
 same_table LeftOut bytes = refl
 same_table (Names column) bytes = refl
 
@@ -27,6 +29,7 @@ same_pieces line DynamoRio bytes = refl
 
 table_kind : (line : TraceLine) → is_of_addresses (csv_behind (Some line)) ≡ false
 table_kind (Refers line) = refl
+table_kind Word = refl
 table_kind LeftOut = refl
 table_kind (Names column) = refl
 
@@ -39,33 +42,42 @@ same_kind line OracleGeneral behind is = ap is_of_addresses is
 same_kind line Lackey behind is = ap is_of_addresses is
 same_kind line DynamoRio behind is = ap is_of_addresses is
 
-module _ (format : TraceFormat) (count next : ℕ) (counts : next ≡ counted count) (piece : List ℕ) where
-  line_step : (line : TraceLine) (behind : TraceFormat) → said format next piece ≡ Some line → behind ≡ format_behind (Some line) format → (pieces : List (List ℕ))
-      → lines format count (piece ∷ pieces) ≡ line_given line (lines behind next pieces)
-  unfolding lines
-  line_step line behind says is pieces =
-      ap (λ (n : ℕ). line_or (flaw_of format n piece) (said format n piece) (lines (format_behind (said format n piece) format) n pieces)) (sym counts)
-      ∙ ap (λ (o : Option TraceLine). line_or (flaw_of format next piece) o (lines (format_behind o format) next pieces)) says
-      ∙ ap (λ (f : TraceFormat). line_given line (lines f next pieces)) (sym is)
+module _ (format : TraceFormat) (count next : ℕ) (words : List (List ℕ)) (counts : next ≡ counted count) (piece : List ℕ) where
+  -- what the line or record of this number leaves, if it says this
+  abbrev step : ℕ → Option TraceLine → List (List ℕ) → Trace
+  step n line pieces = line_or (flaw_of format n piece) (resolved_or words (word_of format n piece) line)
+      (lines (format_behind line format) n (words_after words (word_of format n piece) line) pieces)
 
-  pub line_passed : (line : TraceLine) (behind : TraceFormat) (known rest : Option (List ℕ)) → TakesPiece (pieces_of format) true piece known rest → said format next piece ≡ Some line → behind ≡ format_behind (Some line) format
-      → Passes (line_given line) (option_map (λ bytes. lines format count (pieces_of format bytes)) known) (option_map (λ bytes. lines behind next (pieces_of behind bytes)) rest)
-  line_passed line behind None rest taken says is = tt
-  line_passed line behind (Some bytes) None taken says is = elim taken [ ]
-  line_passed line behind (Some bytes) (Some others) taken says is =
-      ap (lines format count) taken ∙ line_step line behind says is (pieces_of format others)
-      ∙ ap (λ (pieces : List (List ℕ)). line_given line (lines behind next pieces)) (sym (ap (λ (f : TraceFormat). pieces_of f others) is ∙ same_pieces line format others))
+  stepped : (pieces : List (List ℕ)) → lines format count words (piece ∷ pieces) ≡ step next (said format next piece) pieces
+  unfolding lines
+  stepped pieces = ap (λ (n : ℕ). step n (said format n piece) pieces) (sym counts)
+
+  module _ (line read : TraceLine) (behind : TraceFormat) (after : List (List ℕ)) (says : said format next piece ≡ Some line)
+      (reads : read ≡ resolved words (word_of format next piece) line) (keeps : after ≡ words_behind words (word_of format next piece) line) (is : behind ≡ format_behind (Some line) format) where
+    line_step : (pieces : List (List ℕ)) → lines format count words (piece ∷ pieces) ≡ line_given read (lines behind next after pieces)
+    line_step pieces =
+        stepped pieces
+        ∙ ap (λ (o : Option TraceLine). step next o pieces) says
+        ∙ ap (λ (t : TraceLine). line_given t (lines (format_behind (Some line) format) next (words_behind words (word_of format next piece) line) pieces)) (sym reads)
+        ∙ ap (λ (w : List (List ℕ)). line_given read (lines (format_behind (Some line) format) next w pieces)) (sym keeps)
+        ∙ ap (λ (f : TraceFormat). line_given read (lines f next after pieces)) (sym is)
+
+    pub line_passed : (known rest : Option (List ℕ)) → TakesPiece (pieces_of format) true piece known rest
+        → Passes (line_given read) (option_map (λ bytes. lines format count words (pieces_of format bytes)) known) (option_map (λ bytes. lines behind next after (pieces_of behind bytes)) rest)
+    line_passed None rest taken = tt
+    line_passed (Some bytes) None taken = elim taken [ ]
+    line_passed (Some bytes) (Some others) taken =
+        ap (lines format count words) taken ∙ line_step (pieces_of format others)
+        ∙ ap (λ (pieces : List (List ℕ)). line_given read (lines behind next after pieces)) (sym (ap (λ (f : TraceFormat). pieces_of f others) is ∙ same_pieces line format others))
 
   pub line_breaks : (fault : TraceFault) (known rest : Option (List ℕ)) → TakesPiece (pieces_of format) true piece known rest → said format next piece ≡ None → BreaksBy fault (Breaks (flaw_of format next piece))
-      → IfSome (option_map (λ bytes. lines format count (pieces_of format bytes)) known) (BreaksBy fault)
-  unfolding lines
+      → IfSome (option_map (λ bytes. lines format count words (pieces_of format bytes)) known) (BreaksBy fault)
   line_breaks fault known rest taken says breaks =
-      piece_breaks (pieces_of format) (lines format count) (lines format next) piece (flaw_of format next piece) fault known rest taken
-      (λ pieces. ap (λ (n : ℕ). line_or (flaw_of format n piece) (said format n piece) (lines (format_behind (said format n piece) format) n pieces)) (sym counts)
-      ∙ ap (λ (o : Option TraceLine). line_or (flaw_of format next piece) o (lines (format_behind o format) next pieces)) says)
+      piece_breaks (pieces_of format) (lines format count words) (lines format next words) piece (flaw_of format next piece) fault known rest taken
+      (λ pieces. stepped pieces ∙ ap (λ (o : Option TraceLine). step next o pieces) says)
       breaks
 
-  pub lines_over : (known rest : Option (List ℕ)) → TakesPiece (pieces_of format) false piece known rest
-      → IsOver (option_map (λ bytes. lines format count (pieces_of format bytes)) known) (option_map (λ bytes. lines format next (pieces_of format bytes)) rest)
+  pub lines_over : (after : List (List ℕ)) (known rest : Option (List ℕ)) → TakesPiece (pieces_of format) false piece known rest
+      → IsOver (option_map (λ bytes. lines format count words (pieces_of format bytes)) known) (option_map (λ bytes. lines format next after (pieces_of format bytes)) rest)
   unfolding lines
-  lines_over known rest taken = pieces_over (pieces_of format) (lines format count) (lines format next) piece known rest taken refl refl
+  lines_over after known rest taken = pieces_over (pieces_of format) (lines format count words) (lines format next after) piece known rest taken refl refl

@@ -1,3 +1,4 @@
+pub mod WordNumbers
 pub mod References
 pub mod ReferenceAnswers
 pub mod Written

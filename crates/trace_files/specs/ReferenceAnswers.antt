@@ -88,15 +88,15 @@ Tells gives (Err fault) trace rest = IfSome trace (BreaksBy fault)
 -- ---- what is still to come
 
 abbrev pub lines_left : {B : Type 0} → (B → Option (List ℕ)) → TraceFormat → Pieces B → Option Trace
-lines_left remaining format pieces = option_map (λ bytes. lines format pieces.count (pieces_of format bytes)) (remaining pieces.file)
+lines_left remaining format pieces = option_map (λ bytes. lines format pieces.count pieces.words (pieces_of format bytes)) (remaining pieces.file)
 
 -- with a reference in front that is due
 abbrev pub due_left : {B : Type 0} → (B → Option (List ℕ)) → TraceFormat → Option Reference → Pieces B → Option Trace
-due_left remaining format due pieces = option_map (due_from format due pieces.count) (remaining pieces.file)
+due_left remaining format due pieces = option_map (due_from format due pieces.count pieces.words) (remaining pieces.file)
 
 -- with one that is held
 abbrev pub joined_left : {B : Type 0} → (B → Option (List ℕ)) → TraceFormat → Option Reference → Option Reference → Pieces B → Option Trace
-joined_left remaining format held due pieces = option_map (λ bytes. joined held (due_from format due pieces.count bytes)) (remaining pieces.file)
+joined_left remaining format held due pieces = option_map (λ bytes. joined held (due_from format due pieces.count pieces.words bytes)) (remaining pieces.file)
 
 -- what a trace still tells
 abbrev pub to_come : {B : Type 0} → (B → Option (List ℕ)) → TraceFile B → Option Trace

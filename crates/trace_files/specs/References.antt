@@ -1,16 +1,18 @@
 -- What references the bytes of a trace tell of.
 use Rattle.std.specs.Prelude.{ℕ, zero, suc, ◌+◌, ◌-◌, ◌^◌, Bool, true, false, min, List, [], ◌∷◌, length, Option, Some, None, if◌then◌else◌}
 use Rattle.text_lines.specs.Text.{ahead, lines_of}
+use Rattle.std.specs.Option.{option_map}
 use Rattle.guest_strings.specs.References.{both, is_same_page}
 use Rattle.guest_strings.specs.declared.reference.Reference.{Reference}
-use Rattle.trace_lines.specs.Lines.{said, shows_text, format_behind}
+use Rattle.trace_lines.specs.Lines.{said, shows_text, format_behind, word_of}
 use Rattle.trace_lines.specs.PlainLines.{compression_at}
 use Rattle.trace_lines.specs.declared.compression.Compression.{Compression}
 use Rattle.trace_lines.specs.declared.format.TraceFormat.{TraceFormat}
 use Rattle.trace_lines.specs.declared.format.TraceFormat.TheVariants.{Text, Csv, Columns, OracleGeneral, Lackey, DynamoRio}
 use Rattle.trace_lines.specs.declared.trace_line.LineReferences.{LineReferences}
 use Rattle.trace_lines.specs.declared.trace_line.TraceLine.{TraceLine}
-use Rattle.trace_lines.specs.declared.trace_line.TraceLine.TheVariants.{Refers, LeftOut, Names}
+use Rattle.trace_lines.specs.declared.trace_line.TraceLine.TheVariants.{Refers, Word, LeftOut, Names}
+use Rattle.trace_files.specs.WordNumbers.{resolved, words_behind}
 
 -- ---- what a trace tells
 
@@ -96,6 +98,7 @@ referring line rest = Gives line.first (before line.second rest)
 
 abbrev pub line_given : TraceLine → Trace → Trace
 line_given (Refers line) rest = referring line rest
+line_given Word rest = rest
 line_given LeftOut rest = rest
 line_given (Names column) rest = rest
 
@@ -103,11 +106,21 @@ abbrev pub line_or : Flaw → Option TraceLine → Trace → Trace
 line_or flaw None rest = Breaks flaw
 line_or flaw (Some line) rest = line_given line rest
 
--- the lines or records behind the first so many
-unfoldable pub lines : TraceFormat → ℕ → List (List ℕ) → Trace
-lines format count [] = Ends
-lines format count (piece ∷ pieces) = line_or (flaw_of format (counted count) piece) (said format (counted count) piece)
-    (lines (format_behind (said format (counted count) piece) format) (counted count) pieces)
+-- what a line says whose words are known, and the words behind it
+abbrev pub resolved_or : List (List ℕ) → List ℕ → Option TraceLine → Option TraceLine
+resolved_or words word said = option_map (resolved words word) said
+
+abbrev pub words_after : List (List ℕ) → List ℕ → Option TraceLine → List (List ℕ)
+words_after words word None = words
+words_after words word (Some line) = words_behind words word line
+
+-- the lines or records behind the first so many, in which these words came
+unfoldable pub lines : TraceFormat → ℕ → List (List ℕ) → List (List ℕ) → Trace
+lines format count words [] = Ends
+lines format count words (piece ∷ pieces) = let line = said format (counted count) piece in
+    let word = word_of format (counted count) piece in
+    line_or (flaw_of format (counted count) piece) (resolved_or words word line)
+    (lines (format_behind line format) (counted count) (words_after words word line) pieces)
 
 -- Neighbours to one page are one reference. One that is held is given once it is known that the next is to another page, or that there is none.
 unfoldable pub joined : Option Reference → Trace → Trace
@@ -128,14 +141,14 @@ is_of_addresses OracleGeneral = false
 is_of_addresses Lackey = true
 is_of_addresses DynamoRio = true
 
--- bytes behind the first so many lines or records, with a reference that is due
-abbrev pub due_from : TraceFormat → Option Reference → ℕ → List ℕ → Trace
-due_from format due count bytes = before due (lines format count (pieces_of format bytes))
+-- bytes behind the first so many lines or records, in which these words came, with a reference that is due
+abbrev pub due_from : TraceFormat → Option Reference → ℕ → List (List ℕ) → List ℕ → Trace
+due_from format due count words bytes = before due (lines format count words (pieces_of format bytes))
 
 -- and of a trace of addresses with one that is held
-abbrev pub trace_from : TraceFormat → Option Reference → Option Reference → ℕ → List ℕ → Trace
-trace_from format held due count bytes = if is_of_addresses format then joined held (due_from format due count bytes) else due_from format due count bytes
+abbrev pub trace_from : TraceFormat → Option Reference → Option Reference → ℕ → List (List ℕ) → List ℕ → Trace
+trace_from format held due count words bytes = if is_of_addresses format then joined held (due_from format due count words bytes) else due_from format due count words bytes
 
 -- what the bytes of a whole file tell
 abbrev pub trace_of : TraceFormat → List ℕ → Trace
-trace_of format bytes = trace_from format None None 0 bytes
+trace_of format bytes = trace_from format None None 0 [] bytes

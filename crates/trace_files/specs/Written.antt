@@ -8,6 +8,7 @@ use Rattle.guest_strings.specs.declared.reference.Reference.{Reference}
 use Rattle.page_policies.specs.Optimal.{next_use}
 use Rattle.trace_lines.specs.PageIds.{id_of}
 use Rattle.trace_lines.specs.declared.format.IdColumn.{IdColumn}
+use Rattle.trace_lines.specs.declared.format.IdKind.TheVariants.{Unknown}
 
 -- the line of names of a table
 abbrev pub header : List ℕ
@@ -15,7 +16,7 @@ header = codes "time,id,size"
 
 -- the column of ids of a table that is written
 abbrev pub written_column : IdColumn
-written_column = record { place = 1; separator = Some 44 }
+written_column = record { place = 1; separator = Some 44; ids = Unknown }
 
 -- time, id and size, which is 1
 abbrev pub csv_row : ℕ → Key → List ℕ

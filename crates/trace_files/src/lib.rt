@@ -9,6 +9,7 @@ mod pieces;
 mod reading;
 mod trace_file;
 mod whole_trace;
+mod word_list;
 mod writing;
 
 pub use fault::TraceFault;
@@ -17,6 +18,6 @@ pub use laws::{
     written_rows_are_read,
 };
 pub use trace_file::{BLOCK, TraceFile, open_trace};
-pub use trace_lines::{Compression, IdColumn, TraceFormat};
+pub use trace_lines::{Compression, IdColumn, IdKind, TraceFormat};
 pub use whole_trace::{read_references, read_sample, read_whole};
 pub use writing::{CSV_HEADER, write_csv, write_line, write_records};

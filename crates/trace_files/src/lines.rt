@@ -16,6 +16,7 @@ ghost use Rattle.trace_files.specs.ReferenceAnswers.{BreaksBy, Names, Tells, lin
 
 use crate::fault::TraceFault;
 use crate::pieces::Pieces;
+use crate::word_list::resolve;
 use std::alloc::{AllocError, Global};
 use std::io::BufRead;
 use trace_lines::{
@@ -41,7 +42,7 @@ impl<'a, B: BufRead + Drop> Pieces<'a, B> {
             match self.next_line(format)? {
                 None => return Ok(None),
                 Some(TraceLine::Refers(references)) => return Ok(Some(references)),
-                Some(TraceLine::LeftOut | TraceLine::Names(_)) => {}
+                Some(TraceLine::Word | TraceLine::LeftOut | TraceLine::Names(_)) => {}
             }
         }
         // nothing says that a reader ends: std gives up after as many turns
@@ -61,8 +62,12 @@ impl<'a, B: BufRead + Drop> Pieces<'a, B> {
         }
         match said(*format, self.count, self.last.as_slice()) {
             Some(line) => {
+                let piece = self.last.as_slice();
+                let Ok(told) = resolve(&mut self.words, line, *format, self.count, piece) else {
+                    return Err(TraceFault::NoMemory);
+                };
                 *format = format_behind(line, *format);
-                Ok(Some(line))
+                Ok(Some(told))
             }
             None => Err(self.bad_piece(*format)),
         }

@@ -1,12 +1,13 @@
 //! Traces cut into lines or records, one after another.
 
-ghost use Rattle.std.specs.Prelude.{◌≡◌, Ok, IfErr, IfOk, OnOk};
+ghost use Rattle.std.specs.Prelude.{◌≡◌, [], Ok, IfErr, IfOk, OnOk};
 ghost use Rattle.text_lines.specs.Text.{lines_of};
 ghost use Rattle.trace_files.specs.References.{counted, pieces_of, records_of};
 ghost use Rattle.trace_files.specs.ReferenceAnswers.{IsOutside, Names, TakesPiece};
 
 use crate::fault::TraceFault;
 use crate::reading::{read_line, read_record};
+use crate::word_list::WordList;
 use std::alloc::Global;
 use std::io;
 use std::io::{BufRead, ErrorKind};
@@ -22,6 +23,8 @@ pub(crate) struct Pieces<'a, B: BufRead> {
     pub(crate) last: Vec<u8>,
     /// how many lines or records were read
     pub(crate) count: u64,
+    /// the words that came where ids are words
+    pub(crate) words: WordList,
 }
 
 impl<'a, B: BufRead + Drop> Pieces<'a, B> {
@@ -29,6 +32,7 @@ impl<'a, B: BufRead + Drop> Pieces<'a, B> {
         ensures file { result.file ≡ file }
         ensures named { result.name.now ≡ name.now }
         ensures count { result.count ≡ 0 }
+        ensures words { result.words ≡ [] }
     {
         Pieces {
             alloc,
@@ -36,6 +40,7 @@ impl<'a, B: BufRead + Drop> Pieces<'a, B> {
             file,
             last: Vec::new(alloc),
             count: 0,
+            words: WordList::new(alloc),
         }
     }
 
@@ -47,6 +52,7 @@ impl<'a, B: BufRead + Drop> Pieces<'a, B> {
         ensures fault { IfErr result IsOutside }
         ensures named { IfErr result (Names self.old.name.now) }
         ensures kept { self.new.name ≡ self.old.name }
+        ensures words { self.new.words ≡ self.old.words }
     {
         match format {
             TraceFormat::OracleGeneral => self.read_record(),
@@ -62,6 +68,7 @@ impl<'a, B: BufRead + Drop> Pieces<'a, B> {
         ensures fault { IfErr result IsOutside }
         ensures named { IfErr result (Names self.old.name.now) }
         ensures kept { self.new.name ≡ self.old.name }
+        ensures words { self.new.words ≡ self.old.words }
     {
         let read = read_line(&mut self.file, &mut self.last);
         one_more(read, &mut self.count, self.name)
@@ -75,6 +82,7 @@ impl<'a, B: BufRead + Drop> Pieces<'a, B> {
         ensures fault { IfErr result IsOutside }
         ensures named { IfErr result (Names self.old.name.now) }
         ensures kept { self.new.name ≡ self.old.name }
+        ensures words { self.new.words ≡ self.old.words }
     {
         let read = read_record(&mut self.file, &mut self.last);
         one_more(read, &mut self.count, self.name)

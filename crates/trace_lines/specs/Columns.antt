@@ -9,6 +9,7 @@ use Rattle.clock_policy.specs.declared.key.Key.{Key}
 use Rattle.trace_lines.specs.Ids.{id_in}
 use Rattle.trace_lines.specs.PageIds.{page_of_id}
 use Rattle.trace_lines.specs.declared.format.IdColumn.{IdColumn}
+use Rattle.trace_lines.specs.declared.format.IdKind.TheVariants.{Unknown}
 
 -- ---- the fields of a line
 
@@ -77,13 +78,24 @@ unfoldable pub place_of_ids : ℕ → List ℕ → Option ℕ
 place_of_ids separator names = position_from (λ name. is_id_name (field_text name)) 0 (fields_of separator names)
 
 abbrev pub column_at : ℕ → ℕ → IdColumn
-column_at separator place = record { place = place; separator = Some separator }
+column_at separator place = record { place = place; separator = Some separator; ids = Unknown }
 
 -- the column of ids of a table, of which the first line names the columns: the separator of that line is that of all
 unfoldable pub column_of_ids : List ℕ → Option IdColumn
 column_of_ids names = option_map (column_at (separator_of names)) (place_of_ids (separator_of names) names)
 
--- the page of the id that stands in the column
+-- what stands in the column
+unfoldable pub column_text : IdColumn → List ℕ → Option (List ℕ)
+column_text column line = option_map field_text (slice_get (fields_of (unwrap_or column.separator (separator_of line)) line) column.place)
+
+-- the page of the id that stands there as a number
 unfoldable pub column_page : IdColumn → List ℕ → Option Key
-column_page column line = option_and_then (λ field. option_map page_of_id (id_in (field_text field)))
-    (slice_get (fields_of (unwrap_or column.separator (separator_of line)) line) column.place)
+column_page column line = option_and_then (λ text. option_map page_of_id (id_in text)) (column_text column line)
+
+-- a word has a character
+abbrev pub is_word : List ℕ → Bool
+is_word text = nat_lt 0 (length text)
+
+-- the first one is not what a column of ids may be called
+abbrev pub is_first_word : List ℕ → Bool
+is_first_word text = is_word text && not (is_id_name text)

@@ -4,12 +4,15 @@ ghost use Rattle.std.specs.Prelude.{◌≡◌, ◌∷◌, ◌<◌, ◌≤◌, If
 ghost use Rattle.trace_lines.specs.Columns.{
   column_of_ids,
   column_page,
+  column_text,
   field_size,
   fields_behind,
   fields_of,
+  is_first_word,
   is_id_name,
   is_named,
   is_separator,
+  is_word,
   place_of_ids,
   quoted_after,
   separator_of,
@@ -17,7 +20,7 @@ ghost use Rattle.trace_lines.specs.Columns.{
   unquoted,
 };
 
-use crate::format::IdColumn;
+use crate::format::{IdColumn, IdKind};
 use crate::page_lines::page_of_number;
 use clock_policy::Key;
 
@@ -173,17 +176,41 @@ pub(crate) fn column_of_ids(names: &[u8]) -> Option<IdColumn>
     Some(IdColumn {
         place,
         separator: Some(separator),
+        ids: IdKind::Unknown,
     })
 }
 
-/// The page of the id that stands in the column; what else stands in the line is not looked at.
+/// What stands in the column; what else stands in the line is not looked at.
+#[tactic(auto, unfolding(crate::specs::Columns::column_text))]
+pub(crate) fn column_text(column: IdColumn, line: &[u8]) -> Option<&[u8]>
+    ensures { option_copied result ≡ column_text column line.now }
+{
+    let separator = column_separator(column, line);
+    let field = field(line, separator, column.place)?;
+    Some(unquoted(trimmed(field)))
+}
+
+/// The page of the id that stands in the column as a number.
 #[tactic(auto, unfolding(crate::specs::Columns::column_page))]
 pub(crate) fn column_page(column: IdColumn, line: &[u8]) -> Option<Key>
     ensures { result ≡ column_page column line.now }
 {
-    let separator = column_separator(column, line);
-    let field = field(line, separator, column.place)?;
-    page_of_number(unquoted(trimmed(field)))
+    let text = column_text(column, line)?;
+    page_of_number(text)
+}
+
+/// Whether a text is a word: it has a character.
+pub(crate) fn is_word(text: &[u8]) -> bool
+    ensures { result ≡ is_word text.now }
+{
+    !text.is_empty()
+}
+
+/// Whether it is one that a column may begin with: what a column of ids may be called is taken for a line of names.
+pub(crate) fn is_first_word(text: &[u8]) -> bool
+    ensures { result ≡ is_first_word text.now }
+{
+    is_word(text) && !is_id_name(text)
 }
 
 /// What separates the columns of a line.

@@ -7,6 +7,17 @@ pub struct IdColumn {
     pub place: usize,
     /// What separates the columns; where it is not known, the first separator of each line.
     pub separator: Option<u8>,
+    pub ids: IdKind,
+}
+
+/// What the ids of a column are.
+#[derive(Clone, Copy, Debug, PartialEq, Eq)]
+pub enum IdKind {
+    /// The first one is still to come, and shows it.
+    Unknown,
+    Numbers,
+    /// Texts that are no numbers, at least the first one.
+    Words,
 }
 
 /// How a string of references is written.

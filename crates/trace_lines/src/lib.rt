@@ -11,5 +11,7 @@ mod plain_lines;
 mod trace_line;
 
 pub use compression::{Compression, compression_at};
-pub use format::{IdColumn, TraceFormat};
-pub use trace_line::{LineReferences, TraceLine, format_behind, said, shows_text};
+pub use format::{IdColumn, IdKind, TraceFormat};
+pub use trace_line::{
+    LineReferences, TraceLine, format_behind, said, shows_text, word_numbered, word_of,
+};

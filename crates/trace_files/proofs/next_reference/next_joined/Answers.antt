@@ -14,12 +14,12 @@ returns-in_err-next-clause-told g c =
     let fault = c.in_err-next.field-0.0 in
     rw (p.1, p.2) (breaks_later fault (joined_left g.B.Read.remaining c.args.format.now c.args.held.now c.args.due.now c.args.pieces.now)
     (joined_left g.B.Read.remaining c.references.format c.references.held c.references.due c.references.pieces) c.references.invariant.held
-    (held_breaks (due_from c.references.format c.references.due c.references.pieces.count) c.references.held fault (g.B.Read.remaining c.references.pieces.file) c.in_err-next.ensures.told))
+    (held_breaks (due_from c.references.format c.references.due c.references.pieces.count c.references.pieces.words) c.references.held fault (g.B.Read.remaining c.references.pieces.file) c.in_err-next.ensures.told))
 
 pub returns-in_default-clause-told : goal.returns-in_default-clause-told
 returns-in_default-clause-told g c =
-    let f = due_from c.references.format c.references.due c.references.pieces.count in
-    let h = due_from c.next_due.new.format c.next_due.new.due c.next_due.new.pieces.count in
+    let f = due_from c.references.format c.references.due c.references.pieces.count c.references.pieces.words in
+    let h = due_from c.next_due.new.format c.next_due.new.due c.next_due.new.pieces.count c.next_due.new.pieces.words in
     let known = g.B.Read.remaining c.references.pieces.file in
     let rest = g.B.Read.remaining c.next_due.new.pieces.file in
     let none : c.in_ok-next.field-0 ≡ None = first_of (cc, search rules, grind arith) in

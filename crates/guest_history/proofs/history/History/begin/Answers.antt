@@ -1,0 +1,21 @@
+use Rattle.std.proofs.Common.{arith, refl, ap}
+use Rattle.guest_history.specs.Histories.{place_of}
+use Rattle.debug_core.proofs.Points.{no_points}
+use Rattle.guest_history.proofs.Standing.{led_first}
+use Rattle.guest_history.proofs.history.History.begin.Goals as goal
+
+pub returns : goal.returns
+returns c = record {
+  stands = record {
+    counted = c.requires.counted;
+    within = omega arith;
+    led = led_first c.args.path.stretches.items c.args.program c.in_ok-begin.field-0 (place_of c.new-debugger.result) c.in_ok-begin.ensures (ap place_of c.new-debugger.ensures);
+    points = ap (λ debugger. debugger.points) c.new-debugger.ensures;
+    ranged = no_points;
+    waits = tt;
+  };
+  program_is = refl;
+  path_is = refl;
+  recorded = refl;
+  none = refl;
+}

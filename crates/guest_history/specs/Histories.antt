@@ -1,0 +1,137 @@
+-- A debugger that knows its steps: where it stands, and where it goes back to.
+use Rattle.std.specs.Prelude.{◌≡◌, ℕ, ◌+◌, ◌-◌, ◌<◌, ◌≤◌, Bool, true, false, List, [], ◌∷◌, Option, Some, None, IfSome}
+use Rattle.flat_machine.specs.Process.{Process, opening}
+use Rattle.debug_core.specs.Debugging.{DebuggerValue}
+use Rattle.debug_core.specs.Points.{ArePoints}
+use Rattle.debug_core.specs.declared.point.Why.{Why}
+use Rattle.debug_session.specs.declared.lines.DebugLine.{DebugLine}
+use Rattle.debug_session.specs.declared.lines.DebugLine.TheVariants.{Break, Watch, Remove, Step, Go, Regs, Mem, Run, GoHart, End, Live, Quit}
+use Rattle.run_paths.specs.declared.path.Stretch.{Stretch}
+use Rattle.run_paths.specs.declared.path.Whose.{Whose}
+use Rattle.run_paths.specs.declared.path.Whose.TheVariants.{Hart}
+use Rattle.run_paths.specs.declared.path.Path.{Path}
+use Rattle.run_paths.specs.declared.running.Place.{Place}
+use Rattle.run_paths.specs.declared.program.Program.{Program}
+use Rattle.guest_history.specs.declared.waiting.Waiting.{Waiting}
+use Rattle.guest_history.specs.declared.history.History.{History}
+use Rattle.guest_history.specs.declared.forward.Stepped.{Stepped}
+use Rattle.guest_history.specs.declared.forward.Stepped.TheVariants.{Ran, Refused, PastRecord, OtherHart}
+use Rattle.run_paths.specs.Extending.{IsCounted}
+use Rattle.run_paths.specs.Meeting.{met_at}
+use Rattle.run_paths.specs.Paths.{along, first_place, step_of, whose_at, HasTurn}
+
+-- where a program begins
+abbrev pub beginning : Program → Place
+beginning program = first_place (opening program.image program.input.items)
+
+-- the process of a debugger, and whose turn it has
+abbrev pub place_of : DebuggerValue Process → Place
+place_of debugger = record { turn = debugger.turn; process = debugger.target }
+
+-- a process that waits is behind so many of the known steps
+pub record IsWaiting (program : Program) (path : List Stretch) (total : ℕ) (waiting : Waiting) : Type 0 where
+  pub led : along path waiting.done (beginning program) ≡ Some waiting.place
+  pub live : HasTurn waiting.place
+  pub within : waiting.done ≤ total
+
+-- The debugger shows what the first steps of the path come to, as many as were taken; and it has the points that are kept.
+pub record Stands (history : History) : Type 0 where
+  pub counted : IsCounted history.path
+  pub within : history.done ≤ history.path.total
+  pub led : along history.path.stretches.items history.done (beginning history.program) ≡ Some (place_of history.debugger)
+  pub points : history.debugger.points ≡ history.points
+  pub ranged : ArePoints history.points
+  pub waits : IfSome history.waiting (IsWaiting history.program history.path.stretches.items history.path.total)
+
+-- it stands before the first step of a program on a path
+pub record Begins (program : Program) (path : List Stretch) (is_recorded : Bool) (history : History) : Type 0 where
+  pub stands : Stands history
+  pub program_is : history.program ≡ program
+  pub path_is : history.path.stretches.items ≡ path
+  pub recorded : history.is_recorded ≡ is_recorded
+  pub none : history.done ≡ 0
+
+-- nothing has changed, but that a process may wait no more
+abbrev pub Keeps : History → History → Type 0
+Keeps old new = new ≡ record old { waiting = new.waiting }
+
+-- It stands behind so many of the same steps, and has the same points.
+pub record GoesBackTo (done : ℕ) (old new : History) : Type 0 where
+  pub stands : Stands new
+  pub done_is : new.done ≡ done
+  pub program_is : new.program ≡ old.program
+  pub path_is : new.path ≡ old.path
+  pub points_are : new.points ≡ old.points
+  pub recorded : new.is_recorded ≡ old.is_recorded
+
+-- it goes so many steps back, where so many were taken; else nothing has changed
+abbrev pub GoesBackBy : ℕ → History → Bool → History → Type 0
+GoesBackBy count old true new = (count ≤ old.done) × GoesBackTo (old.done - count) old new
+GoesBackBy count old false new = (old.done < count) × (new ≡ old)
+
+-- why a run along the path stops behind so many steps, by the points and by the reasons of a debugger
+abbrev pub stops_at : History → ℕ → Option Why
+stops_at history = met_at history.points history.path.stretches.items (beginning history.program)
+
+-- It stands at the last place before at which a run stops, for this reason; or at the beginning, where there is none.
+abbrev pub StopsBefore : History → Option Why → History → Type 0
+StopsBefore old None new = (new.done ≡ 0) × ((i : ℕ) → i < old.done → stops_at old i ≡ None)
+StopsBefore old (Some why) new =
+    (new.done < old.done) × ((stops_at old new.done ≡ Some why) × ((i : ℕ) → new.done < i → i < old.done → stops_at old i ≡ None))
+
+-- a process behind no more than so many of the known steps
+pub record IsNear (history : History) (step : ℕ) (near : Waiting) : Type 0 where
+  pub led : along history.path.stretches.items near.done (beginning history.program) ≡ Some near.place
+  pub live : HasTurn near.place
+  pub before : near.done ≤ step
+
+-- The debugger has gone on by so many steps from where the first steps of the path lead.
+pub record Moves (history : History) (whose : Whose) (count : ℕ) : Type 0 where
+  pub at : Place
+  pub counted : IsCounted history.path
+  pub within : history.done ≤ history.path.total
+  pub led : along history.path.stretches.items history.done (beginning history.program) ≡ Some at
+  pub moved : along (record { whose = whose; count = count } ∷ []) count at ≡ Some (place_of history.debugger)
+  pub points : history.debugger.points ≡ history.points
+  pub ranged : ArePoints history.points
+  pub waits : IfSome history.waiting (IsWaiting history.program history.path.stretches.items history.path.total)
+
+-- the next steps of a path are those of a stretch
+pub record IsNext (path : Path) (done : ℕ) (stretch : Stretch) : Type 0 where
+  pub within : done + stretch.count ≤ path.total
+  pub next : (i : ℕ) → i < stretch.count → whose_at path.stretches.items (done + i) ≡ Some stretch.whose
+
+-- the same program, and where the harts take their turns by a record, the same turns
+pub record IsSameRun (old new : History) : Type 0 where
+  pub program_is : new.program ≡ old.program
+  pub recorded : new.is_recorded ≡ old.is_recorded
+  pub path_is : old.is_recorded ≡ true → new.path ≡ old.path
+
+-- whether a record has this hart's step next, where there is a record
+abbrev pub IsAllowed : ℕ → History → Type 0
+IsAllowed hart history =
+    history.is_recorded ≡ true → (history.done < history.path.total) × (whose_at history.path.stretches.items history.done ≡ Some (Hart hart))
+
+-- What has come of a step of a hart: it was taken, or the debugger refuses it, or the record has no more steps, or another hart's there.
+abbrev pub HasStepped : ℕ → History → Stepped → History → Type 0
+HasStepped hart old Ran new =
+    IsAllowed hart old × ((new.done ≡ old.done + 1) × (step_of hart (place_of old.debugger) ≡ Some (place_of new.debugger)))
+HasStepped hart old (Refused why) new = IsAllowed hart old × ((new.done ≡ old.done) × (place_of new.debugger ≡ place_of old.debugger))
+HasStepped hart old PastRecord new = (old.is_recorded ≡ true) × ((old.path.total ≤ old.done) × (new ≡ old))
+HasStepped hart old OtherHart new =
+    (old.is_recorded ≡ true) × ((old.done < old.path.total) × ((¬ (whose_at old.path.stretches.items old.done ≡ Some (Hart hart))) × (new ≡ old)))
+
+-- a line that only shows something, or ends the conversation
+abbrev pub Looks : DebugLine → Type 0
+Looks (Regs hart) = Unit {0}
+Looks (Mem address length) = Unit {0}
+Looks End = Unit {0}
+Looks (Live hart) = Unit {0}
+Looks Quit = Unit {0}
+Looks (Break address) = ⊥
+Looks (Watch address length) = ⊥
+Looks (Remove number) = ⊥
+Looks (Step hart) = ⊥
+Looks (Go limit) = ⊥
+Looks (Run limit) = ⊥
+Looks (GoHart hart limit) = ⊥

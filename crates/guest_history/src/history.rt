@@ -1,0 +1,293 @@
+//! A debugger that knows its steps.
+
+ghost use Rattle.std.specs.Prelude.{◌≡◌, ◌≤◌, ◌<◌, ◌-◌, ◌+◌, ◌^◌, [], Some, None, true, false, replicate, IfOk, IfSome, OnOk};
+ghost use Rattle.run_paths.specs.Extending.{IsCounted};
+ghost use Rattle.run_paths.specs.Meeting.{shifted, LastMet};
+ghost use Rattle.run_paths.specs.Paths.{along, hart_of, path_of, step_of, HasTurn};
+ghost use Rattle.guest_history.specs.Histories.{beginning, place_of, stops_at, Begins, IsNear, Keeps, Moves};
+ghost use Rattle.guest_history.specs.Histories.{GoesBackBy, GoesBackTo, Stands, StopsBefore};
+
+use crate::points::give_points;
+use crate::waiting::Waiting;
+use debug_core::{DebugStep, Debugger, MOST_POINTS, Why};
+use flat_machine::{FlatProcess, Turn};
+use run_paths::{
+    Met, Path, Place, Points, Program, RunFault, Whose, count_of, hart_of, last_met, part_of,
+    path_of, whose_at,
+};
+use std::alloc::Global;
+
+/// How many steps `back_go` looks at first.
+const FIRST_LOOK: u64 = 1 << 20;
+
+/// Looks that are longer than this one grow no more.
+const MOST_LOOKED: u64 = 1 << 56;
+
+/// A debugger of a program that knows its steps, so that it can go back.
+#[derive(Drop)]
+pub struct History {
+    pub program: Program,
+    /// All steps that are known.
+    pub path: Path,
+    /// Whether no other steps may be taken.
+    pub is_recorded: bool,
+    /// How many were taken.
+    pub done: u64,
+    /// Those of the debugger.
+    pub points: Points,
+    pub debugger: Debugger<FlatProcess>,
+    pub waiting: Option<Waiting>,
+}
+
+impl History {
+    /// A debugger of a program whose harts take turns.
+    pub fn new(alloc: Global, program: Program) -> Result<Self, RunFault>
+        ensures { IfOk result (Begins program [] false) }
+    {
+        let path = Path {
+            stretches: Vec::new(alloc),
+            total: 0,
+        };
+        History::begin(alloc, program, path, false)
+    }
+
+    /// A debugger of a program whose harts take these turns.
+    pub fn recorded(alloc: Global, program: Program, turns: &[Turn]) -> Result<Self, RunFault>
+        ensures { IfOk result (Begins program (path_of turns.now) true) }
+    {
+        let stretches = path_of(alloc, turns)?;
+        let Some(total) = count_of(stretches.as_slice()) else {
+            return Err(RunFault::OtherRun);
+        };
+        History::begin(alloc, program, Path { stretches, total }, true)
+    }
+
+    /// A debugger of a program before its first step.
+    fn begin(
+        alloc: Global,
+        program: Program,
+        path: Path,
+        is_recorded: bool,
+    ) -> Result<Self, RunFault>
+        requires counted { IsCounted path }
+        ensures { IfOk result (Begins program path.stretches.items is_recorded) }
+    {
+        let debugger = Debugger::new(program.begin(alloc)?);
+        Ok(History {
+            program,
+            path,
+            is_recorded,
+            done: 0,
+            points: [None; MOST_POINTS],
+            debugger,
+            waiting: None,
+        })
+    }
+
+    /// Goes so many steps back, if so many were taken. Answers whether they were.
+    pub fn back(&mut self, alloc: Global, count: u64) -> Result<bool, RunFault>
+        requires stands { Stands self.old }
+        ensures back { IfOk result (λ is_back. GoesBackBy count self.old is_back self.new) }
+    {
+        if count > self.done {
+            return Ok(false);
+        }
+        self.stand_at(alloc, self.done - count)?;
+        Ok(true)
+    }
+
+    /// Goes back to the last place where a point would have stopped it, or to the beginning. Reports what was met.
+    #[tactic(auto, using(crate::proofs::Stopping::stops_there, crate::proofs::Stopping::stops_nowhere))]
+    pub fn back_go(&mut self, alloc: Global) -> Result<Option<Why>, RunFault>
+        requires stands { Stands self.old }
+        ensures back { OnOk result (GoesBackTo self.new.done self.old self.new) }
+        ensures stop { IfOk result (λ why. StopsBefore self.old why self.new) }
+    {
+        match self.last_met(alloc)? {
+            Some(met) => {
+                self.stand_at(alloc, met.steps)?;
+                Ok(Some(met.why))
+            }
+            None => {
+                self.stand_at(alloc, 0)?;
+                Ok(None)
+            }
+        }
+    }
+
+    /// The last place before this one where a point would have stopped it, but for the beginning.
+    fn last_met(&mut self, alloc: Global) -> Result<Option<Met>, RunFault>
+        requires stands { Stands self.old }
+        ensures stands { Stands self.new }
+        ensures keeps { Keeps self.old self.new }
+        ensures last { IfOk result (LastMet (stops_at self.old) 0 self.old.done) }
+    {
+        let mut end = self.done;
+        let mut width = FIRST_LOOK;
+        'looks: while end > 1 {
+            let from = end - width.min(end - 1) - 1;
+            let met = self.last_met_between(alloc, from, end)?;
+            if met.is_some() {
+                return Ok(met);
+            }
+            end = from + 1;
+            width = wider(width);
+        }
+        Ok(None)
+    }
+
+    /// The same behind so many steps, and before so many.
+    fn last_met_between(
+        &mut self,
+        alloc: Global,
+        from: u64,
+        end: u64,
+    ) -> Result<Option<Met>, RunFault>
+        requires stands { Stands self.old }
+        requires within { end ≤ self.old.path.total }
+        requires before { from < end }
+        ensures stands { Stands self.new }
+        ensures keeps { Keeps self.old self.new }
+        ensures last { IfOk result (LastMet (stops_at self.old) from end) }
+    {
+        let place = self.place_at(alloc, from)?;
+        let path = self.path.stretches.as_slice();
+        let part = part_of(alloc, path, from, end - from)?;
+        let met = last_met(place, part.as_slice(), &self.points)?;
+        Ok(behind(met, from))
+    }
+
+    /// Stands behind so many of the known steps.
+    pub(crate) fn stand_at(&mut self, alloc: Global, step: u64) -> Result<(), RunFault>
+        requires stands { Stands self.old }
+        requires known { step ≤ self.old.path.total }
+        ensures { OnOk result (GoesBackTo step self.old self.new) }
+    {
+        let mut debugger = self.debugger_at(alloc, step)?;
+        give_points(&mut debugger, &self.points)?;
+        self.debugger = debugger;
+        self.done = step;
+        Ok(())
+    }
+
+    /// A debugger with no points behind so many of the known steps.
+    fn debugger_at(&mut self, alloc: Global, step: u64) -> Result<Debugger<FlatProcess>, RunFault>
+        requires stands { Stands self.old }
+        requires known { step ≤ self.old.path.total }
+        ensures keeps { Keeps self.old self.new }
+        ensures stands { Stands self.new }
+        ensures led { IfOk result (λ debugger. along self.old.path.stretches.items step
+            (beginning self.old.program) ≡ Some (place_of debugger)) }
+        ensures points { IfOk result (λ debugger. debugger.points ≡ replicate 32 None) }
+    {
+        if step == 0 {
+            return Ok(Debugger::new(self.program.begin(alloc)?));
+        }
+        let place = self.place_at(alloc, step - 1)?;
+        let Some(whose) = whose_at(self.path.stretches.as_slice(), step - 1) else {
+            return Err(RunFault::OtherRun);
+        };
+        let debugger = debugger_behind(place, whose)?;
+        Ok(debugger)
+    }
+
+    /// The process behind so many of the known steps.
+    pub(crate) fn place_at(&mut self, alloc: Global, step: u64) -> Result<Place, RunFault>
+        requires stands { Stands self.old }
+        requires known { step ≤ self.old.path.total }
+        ensures keeps { Keeps self.old self.new }
+        ensures stands { Stands self.new }
+        ensures led { IfOk result (λ place. along self.old.path.stretches.items step
+            (beginning self.old.program) ≡ Some place) }
+        ensures live { IfOk result (λ place. HasTurn place) }
+    {
+        let near = self.near(alloc, step)?;
+        let path = self.path.stretches.as_slice();
+        let part = part_of(alloc, path, near.done, step - near.done)?;
+        let mut place = near.place;
+        place.go_along(alloc, part.as_slice())?;
+        Ok(place)
+    }
+
+    /// The process that waits, where it is behind no more steps, else that at the beginning.
+    fn near(&mut self, alloc: Global, step: u64) -> Result<Waiting, RunFault>
+        requires stands { Stands self.old }
+        ensures keeps { Keeps self.old self.new }
+        ensures stands { Stands self.new }
+        ensures near { IfOk result (λ near. IsNear self.old step near) }
+    {
+        if let Some(waiting) = self.waiting.take() {
+            if waiting.done <= step {
+                return Ok(waiting);
+            }
+        }
+        Ok(Waiting {
+            place: Place::first(self.program.begin(alloc)?),
+            done: 0,
+        })
+    }
+
+    /// Notes that so many steps were taken: the debugger stands behind them.
+    pub(crate) fn note(&mut self, alloc: Global, whose: Whose, count: u64) -> Result<(), RunFault>
+        requires moved { Moves self.old whose count }
+        requires small { self.old.done + count < 2 ^ 64 }
+        ensures stands { OnOk result (Stands self.new) }
+        ensures done { OnOk result (self.new.done ≡ self.old.done + count) }
+        ensures shown { self.new.debugger ≡ self.old.debugger }
+        ensures points { self.new.points ≡ self.old.points }
+        ensures program { self.new.program ≡ self.old.program }
+        ensures recorded { self.new.is_recorded ≡ self.old.is_recorded }
+    {
+        let is_kept = self.path.extend(alloc, self.done, whose, count)?;
+        self.waiting = where_kept(is_kept, self.waiting.take());
+        self.done += count;
+        Ok(())
+    }
+}
+
+/// What was met, counted from so many steps before.
+fn behind(met: Option<Met>, before: u64) -> Option<Met>
+    requires small { IfSome met (λ found. before + found.steps < 2 ^ 64) }
+    ensures { result ≡ shifted before met }
+{
+    match met {
+        Some(met) => Some(Met {
+            steps: before + met.steps,
+            why: met.why,
+        }),
+        None => None,
+    }
+}
+
+/// How many steps are looked at next.
+fn wider(width: u64) -> u64
+    requires some { 0 < width }
+    ensures some { 0 < result }
+{
+    if width >= MOST_LOOKED {
+        width
+    } else {
+        width * 16
+    }
+}
+
+/// The process that waits, where no known step was forgotten.
+fn where_kept(is_kept: bool, waiting: Option<Waiting>) -> Option<Waiting>
+    ensures { IfSome result (λ kept. (is_kept ≡ true) × (waiting ≡ Some kept)) }
+{
+    if is_kept { waiting } else { None }
+}
+
+/// The debugger of a process after the next step.
+fn debugger_behind(place: Place, whose: Whose) -> Result<Debugger<FlatProcess>, RunFault>
+    ensures led { IfOk result (λ debugger. step_of (hart_of whose place.turn) place ≡
+        Some (place_of debugger)) }
+    ensures points { IfOk result (λ debugger. debugger.points ≡ replicate 32 None) }
+{
+    let hart = hart_of(whose, place.turn);
+    let mut debugger = Debugger::new(place.process);
+    match debugger.step(hart) {
+        Ok(DebugStep::Ran) => Ok(debugger),
+        _ => Err(RunFault::OtherRun),
+    }
+}

@@ -1,0 +1,4 @@
+pub mod Paths
+pub mod Extending
+pub mod Meeting
+pub mod Searches

@@ -1,0 +1,135 @@
+//! Watches: the bytes of each as they were, against those of a process; and breaks.
+
+ghost use Rattle.std.specs.Prelude.{◌≡◌, ℕ, ◌+◌, ◌^◌, ◌≤◌, None, Some, length};
+ghost use Rattle.std.specs.List.{position_from};
+ghost use Rattle.page_memory.specs.Memory.{Memory};
+ghost use Rattle.flat_machine.specs.Process.{hart_registers};
+ghost use Rattle.debug_core.specs.Points.{any_changed, bytes_from, has_changed, is_break_at, is_hit, ArePoints, IsPoint};
+ghost use Rattle.debug_core.specs.Seen.{AreSeen, IsSeen};
+ghost use Rattle.debug_core.specs.Stops.{break_at};
+ghost use Rattle.run_paths.specs.Meeting.{first_hit};
+
+use debug_core::{MOST_WATCHED, Point};
+use flat_machine::FlatProcess;
+
+/// The bytes of a watch, and nothing behind them.
+pub(crate) type Window = [Option<u8>; MOST_WATCHED as usize];
+
+/// The window of a watch before anything was seen.
+pub(crate) const NOTHING: Window = [None; MOST_WATCHED as usize];
+
+/// The number of the first watch of which a byte has changed since it was seen. All are seen as they are now.
+pub(crate) fn look(
+    process: &FlatProcess,
+    points: &[Option<Point>],
+    seen: &mut [Window],
+) -> Option<u32>
+    requires points { ArePoints points.now }
+    requires room { length points.now ≤ length seen.old }
+    requires few { length points.now ≤ 32 }
+    ensures hit { (was : Memory) → AreSeen points.now seen.old was →
+        result ≡ position_from (is_hit was process.now.memory) 0 points.now }
+    ensures seen { AreSeen points.now seen.new process.now.memory }
+    ensures room { length seen.new ≡ length seen.old }
+{
+    let mut hit = None;
+    'points: for number in 0..points.len() {
+        let is_hit = look_at(process, points[number], &mut seen[number]);
+        hit = first_hit(hit, number as u32, is_hit);
+    }
+    hit
+}
+
+/// The first of some numbers: the one so far, else this one, if it is one.
+fn first_hit(hit: Option<u32>, number: u32, is_hit: bool) -> Option<u32>
+    ensures { result ≡ first_hit hit number is_hit }
+{
+    match hit {
+        Some(first) => Some(first),
+        None => { if is_hit { Some(number) } else { None } }
+    }
+}
+
+/// Whether a point is a watch of which a byte has changed since it was seen. It is then seen as it is now.
+fn look_at(process: &FlatProcess, point: Option<Point>, seen: &mut Window) -> bool
+    requires point { IsPoint point }
+    ensures hit { (was : Memory) → IsSeen point seen.old was →
+        result ≡ is_hit was process.now.memory point }
+    ensures seen { IsSeen point seen.new process.now.memory }
+{
+    let Some(Point::Watch { address, length }) = point else {
+        return false;
+    };
+    let mut now = NOTHING;
+    read_all(process, address, &mut now[..length as usize]);
+    let hit = any_changed(&seen[..length as usize], &now[..length as usize]);
+    *seen = now;
+    hit
+}
+
+/// Reads the bytes from an address on.
+fn read_all(process: &FlatProcess, address: u32, bytes: &mut [Option<u8>])
+    requires { address + length bytes.old ≤ 2 ^ 32 }
+    ensures { bytes.new ≡ bytes_from process.now.memory address (length bytes.old) }
+{
+    'bytes: for i in 0..bytes.len() {
+        bytes[i] = process.byte(address + i as u32);
+    }
+}
+
+/// Whether one of some bytes was there, and is not what it was.
+#[tactic(auto, using(debug_core::proofs::Watching::changed_stops, debug_core::proofs::Watching::changed_goes_on, debug_core::proofs::Watching::changed_ends))]
+fn any_changed(before: &[Option<u8>], now: &[Option<u8>]) -> bool
+    requires { length before.now ≡ length now.now }
+    ensures { result ≡ any_changed before.now now.now }
+{
+    'bytes: for i in 0..before.len() {
+        if has_changed(before[i], now[i]) {
+            return true;
+        }
+    }
+    false
+}
+
+/// Whether a byte was there, and is not what it was.
+fn has_changed(was: Option<u8>, now: Option<u8>) -> bool
+    ensures { result ≡ has_changed was now }
+{
+    match (was, now) {
+        (None, _) => false,
+        (Some(_), None) => true,
+        (Some(was), Some(now)) => was != now,
+    }
+}
+
+/// The number of the first break at which a hart stands.
+pub(crate) fn break_at(process: &FlatProcess, hart: u32, points: &[Option<Point>]) -> Option<u32>
+    requires few { length points.now ≤ 32 }
+    ensures { result ≡ break_at points.now (hart_registers hart process.now) }
+{
+    let pc = process.regs(hart)?.pc();
+    break_before(pc, points)
+}
+
+/// The number of the first break at an address.
+fn break_before(pc: u32, points: &[Option<Point>]) -> Option<u32>
+    requires few { length points.now ≤ 32 }
+    ensures { result ≡ position_from (is_break_at pc) 0 points.now }
+{
+    'points: for number in 0..points.len() {
+        if is_break_at(pc, points[number]) {
+            return Some(number as u32);
+        }
+    }
+    None
+}
+
+/// Whether a point is a break at an address.
+fn is_break_at(pc: u32, point: Option<Point>) -> bool
+    ensures { result ≡ is_break_at pc point }
+{
+    match point {
+        Some(Point::Break { address }) => address == pc,
+        _ => false,
+    }
+}

@@ -22,9 +22,6 @@ set_behind k point (first ∷ points) = ap (λ (l : List (Option Point)). filled
 some_same : (a b : ℕ) → ◌≡◌ {A = Option ℕ} (Some a) (Some b) → a ≡ b
 some_same a b e = ap (λ (o : Option ℕ). unwrap_or o a) e
 
-pub fill_none : (points now : List (Option Point)) → now ≡ replicate 32 None → now ≡ filling 0 points
-fill_none points now e = e
-
 pub fill_more : (points old new : List (Option Point)) (n number : ℕ) → n < 32 → length points ≡ 32 → old ≡ filling n points → lowest_free old ≡ Some number
     → new ≡ slice_set old number (filled (slice_index_or points n None)) → new ≡ filling (n + 1) points
 fill_more points old new n number within long e free made =
@@ -45,22 +42,9 @@ fill_more points old new n number within long e free made =
     ∙ ap (λ (l : List (Option Point)). l ++ replicate k None) (sym first)
     ∙ ap (λ j. map filled (take (n + 1) points) ++ replicate j None) (sym rest)
 
-pub fill_all : (points now : List (Option Point)) (n : ℕ) → 32 ≤ n → length points ≡ 32 → now ≡ filling n points → now ≡ map filled points
-fill_all points now n all long e =
-    let none : 32 - n ≡ 0 = omega (arith, all) in
-    e ∙ ap (λ j. map filled (take n points) ++ replicate j None) none ∙ append-nil (map filled (take n points)) ∙ ap (map filled) (take_all n points (omega (arith, all, long)))
-
 -- the first so many points are as they are to be, the others as they were filled
 abbrev pub clearing : ℕ → List (Option Point) → List (Option Point)
 clearing n points = take n points ++ drop n (map filled points)
-
-pub clear_at : (points now : List (Option Point)) (n : ℕ) → n < length points → now ≡ clearing n points → slice_index_or now n None ≡ filled (slice_index_or points n None)
-clear_at points now n within e = ap (λ (l : List (Option Point)). slice_index_or l n None) e ∙ at points n within
-  where
-    at : (points : List (Option Point)) (n : ℕ) → n < length points → slice_index_or (clearing n points) n None ≡ filled (slice_index_or points n None)
-    at [] n within = absurd (omega (arith, within))
-    at (point ∷ points) zero within = refl
-    at (point ∷ points) (suc n) within = at points n (omega (arith, within))
 
 pub clear_more : (points old new : List (Option Point)) (n : ℕ) → n < length points → old ≡ clearing n points → new ≡ slice_set old n (slice_index_or points n None) → new ≡ clearing (n + 1) points
 clear_more points old new n within e made =
@@ -71,8 +55,3 @@ clear_more points old new n within e made =
     next [] n within = absurd (omega (arith, within))
     next (point ∷ points) zero within = refl
     next (point ∷ points) (suc n) within = ap (λ (l : List (Option Point)). point ∷ l) (next points n (omega (arith, within)))
-
-pub clear_all : (points now : List (Option Point)) (n : ℕ) → length points ≤ n → now ≡ clearing n points → now ≡ points
-clear_all points now n all e =
-    let size : length (map filled points) ≤ n = let same = length-map points filled in omega (arith, same, all) in
-    e ∙ ap (λ (l : List (Option Point)). take n points ++ l) (drop_all n (map filled points) size) ∙ append-nil (take n points) ∙ take_all n points all

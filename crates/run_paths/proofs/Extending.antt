@@ -78,15 +78,6 @@ lengthens old new end extra d set counted some is whose_is count_is set_is total
       added = λ i past h. ap (λ (l : List Stretch). whose_at l i) all ∙ added_with path extra i some (omega (arith, past, counted)) (omega (arith, h, is, counted));
     }
 
-pub lengthens_not : (old : Path) (end : ℕ) → IsCounted old → end ≤ old.total → Lengthens old end old
-lengthens_not old end counted less = record {
-  counted = counted;
-  reached = less;
-  longer = omega arith;
-  kept = λ i h. refl;
-  added = λ i past h. absurd (omega (arith, past, h, less));
-}
-
 -- ---- whose the last stretch is
 
 last_is : (path : List Stretch) (d : Stretch) → 0 < length path → last_whose path ≡ Some (slice_index_or path (length path - 1) d).whose

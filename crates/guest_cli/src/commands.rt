@@ -1,6 +1,7 @@
 //! The commands and what each takes.
 
-use clap::{Arg, ArgAction, Command};
+use clap::{Arg, Command};
+use guest_io::{flag_arg, option_arg, with_arg};
 use std::alloc::{AllocError, Global};
 
 pub(crate) fn guest<'a>(alloc: Global) -> Result<Command<'a>, AllocError> {
@@ -25,29 +26,30 @@ fn with<'a>(
 
 fn run<'a>(alloc: Global) -> Result<Command<'a>, AllocError> {
     let command = Ok(Command::new(alloc, "run"));
-    let command = with_arg(command, option(alloc, "frames"));
-    image(alloc, with_arg(command, option(alloc, "limit")))
+    let command = with_arg(command, option_arg(alloc, "frames"));
+    image(alloc, with_arg(command, option_arg(alloc, "limit")))
 }
 
 fn trace<'a>(alloc: Global) -> Result<Command<'a>, AllocError> {
     let command = Ok(Command::new(alloc, "trace"));
-    let command = with_arg(command, option(alloc, "from"));
-    let command = with_arg(command, option(alloc, "count"));
-    let command = with_arg(command, option(alloc, "hart"));
-    image(alloc, with_arg(command, flag(alloc, "functions")))
+    let command = with_arg(command, option_arg(alloc, "from"));
+    let command = with_arg(command, option_arg(alloc, "count"));
+    let command = with_arg(command, option_arg(alloc, "hart"));
+    image(alloc, with_arg(command, flag_arg(alloc, "functions")))
 }
 
 fn profile<'a>(alloc: Global) -> Result<Command<'a>, AllocError> {
     let command = Ok(Command::new(alloc, "profile"));
-    let command = with_arg(command, option(alloc, "limit"));
-    let command = with_arg(command, option(alloc, "lines"));
-    image(alloc, with_arg(command, flag(alloc, "callgrind")))
+    let command = with_arg(command, option_arg(alloc, "limit"));
+    let command = with_arg(command, option_arg(alloc, "lines"));
+    image(alloc, with_arg(command, flag_arg(alloc, "callgrind")))
 }
 
 fn debug<'a>(alloc: Global) -> Result<Command<'a>, AllocError> {
     let command = Ok(Command::new(alloc, "debug"));
-    let command = with_arg(command, option(alloc, "frames"));
-    image(alloc, with_arg(command, option(alloc, "input")))
+    let command = with_arg(command, option_arg(alloc, "frames"));
+    let command = with_arg(command, option_arg(alloc, "replay"));
+    image(alloc, with_arg(command, option_arg(alloc, "input")))
 }
 
 fn replay<'a>(alloc: Global) -> Result<Command<'a>, AllocError> {
@@ -64,22 +66,4 @@ fn image<'a>(
     command: Result<Command<'a>, AllocError>,
 ) -> Result<Command<'a>, AllocError> {
     with_arg(command, Arg::new(alloc, "image").required(true))
-}
-
-/// The command with another argument, where it could be made.
-fn with_arg<'a>(
-    command: Result<Command<'a>, AllocError>,
-    arg: Arg<'a>,
-) -> Result<Command<'a>, AllocError> {
-    command?.arg(arg)
-}
-
-/// An option with a value.
-fn option<'a>(alloc: Global, name: &'a str) -> Arg<'a> {
-    Arg::new(alloc, name).long(name)
-}
-
-/// An option that has no value.
-fn flag<'a>(alloc: Global, name: &'a str) -> Arg<'a> {
-    Arg::new(alloc, name).long(name).action(ArgAction::SetTrue)
 }

@@ -12,6 +12,7 @@ mod profile_command;
 mod profile_tables;
 mod profile_text;
 mod program;
+mod replayed_program;
 mod request;
 mod requests;
 mod run_command;

@@ -56,6 +56,8 @@ pub(crate) struct DebugRequest<'a> {
     pub(crate) frames: Option<u32>,
     /// The file whose bytes the program reads, if there is one.
     pub(crate) input: Option<&'a str>,
+    /// The record by which its harts take their turns, if there is one.
+    pub(crate) record: Option<&'a str>,
     pub(crate) image: &'a str,
     ghost fitting: { ForSome frames (λ number. (4 ≤ number) × (number ≤ 4096)) },
 }

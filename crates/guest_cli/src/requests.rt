@@ -4,14 +4,12 @@ ghost use Rattle.std.specs.Prelude.{◌≤◌, IfOk, IfSome};
 
 use crate::commands::guest;
 use crate::request::{DebugRequest, ProfileRequest, Request, RunRequest, TraceRequest};
-use crate::wrong::{BadNumber, Wrong};
+use crate::wrong::Wrong;
 use clap::ArgMatches;
-use clap::error::ErrorKind;
-use image_files::Fault;
+use guest_io::{UsageFault, is_given, number, text, wrong_words};
 use record_commands::ReplayRequest;
 use std::alloc::Global;
 use std::convert::AsStr;
-use text_lines::numeral;
 
 /// How many rows a table of a profile has where no number is asked for.
 const USUAL_ROWS: u32 = 20;
@@ -23,12 +21,12 @@ pub(crate) fn read_request<'a, S: AsStr>(
 ) -> Result<Request<'a>, Wrong<'a>> {
     match guest(alloc)?.try_get_matches_from(words) {
         Ok(matches) => Ok(request_of(&matches)?),
-        Err(error) => Err(wrong_words(alloc, &error)),
+        Err(error) => Err(Wrong::Usage(wrong_words(alloc, &error))),
     }
 }
 
 /// The request of words that name a command and what it takes.
-fn request_of<'a>(matches: &ArgMatches<'a>) -> Result<Request<'a>, BadNumber<'a>> {
+fn request_of<'a>(matches: &ArgMatches<'a>) -> Result<Request<'a>, UsageFault<'a>> {
     match matches.subcommand() {
         Some(("run", matches)) => Ok(Request::Run(run_request(matches)?)),
         Some(("trace", matches)) => Ok(Request::Trace(trace_request(matches)?)),
@@ -39,31 +37,7 @@ fn request_of<'a>(matches: &ArgMatches<'a>) -> Result<Request<'a>, BadNumber<'a>
     }
 }
 
-/// Why words are no request: the first line of what the library says, without its `error: `.
-fn wrong_words<'a>(alloc: Global, error: &clap::Error) -> Wrong<'a> {
-    if matches!(error.kind(), ErrorKind::OutOfMemory) {
-        return Wrong::Fault(Fault::NoMemory);
-    }
-    let Ok(text) = format!(in alloc; "{error}") else {
-        return Wrong::Fault(Fault::NoMemory);
-    };
-    let mut lines = text.lines();
-    let line = lines.next().unwrap_or("");
-    let reason = line.strip_prefix("error: ").unwrap_or(line);
-    // Behind a colon the next line names the argument.
-    let rest = if reason.ends_with(':') {
-        lines.next().unwrap_or("").trim_start()
-    } else {
-        ""
-    };
-    let space = if rest.is_empty() { "" } else { " " };
-    match format!(in alloc; "{reason}{space}{rest}") {
-        Ok(reason) => Wrong::Words(reason),
-        Err(_) => Wrong::Fault(Fault::NoMemory),
-    }
-}
-
-fn run_request<'a>(matches: &ArgMatches<'a>) -> Result<RunRequest<'a>, BadNumber<'a>> {
+fn run_request<'a>(matches: &ArgMatches<'a>) -> Result<RunRequest<'a>, UsageFault<'a>> {
     Ok(RunRequest {
         frames: frames(matches)?,
         limit: steps_or(matches, "limit", u64::MAX)?,
@@ -71,7 +45,7 @@ fn run_request<'a>(matches: &ArgMatches<'a>) -> Result<RunRequest<'a>, BadNumber
     })
 }
 
-fn trace_request<'a>(matches: &ArgMatches<'a>) -> Result<TraceRequest<'a>, BadNumber<'a>> {
+fn trace_request<'a>(matches: &ArgMatches<'a>) -> Result<TraceRequest<'a>, UsageFault<'a>> {
     Ok(TraceRequest {
         from: steps_or(matches, "from", 1)?,
         count: steps_or(matches, "count", u64::MAX)?,
@@ -81,7 +55,7 @@ fn trace_request<'a>(matches: &ArgMatches<'a>) -> Result<TraceRequest<'a>, BadNu
     })
 }
 
-fn profile_request<'a>(matches: &ArgMatches<'a>) -> Result<ProfileRequest<'a>, BadNumber<'a>> {
+fn profile_request<'a>(matches: &ArgMatches<'a>) -> Result<ProfileRequest<'a>, UsageFault<'a>> {
     Ok(ProfileRequest {
         limit: steps_or(matches, "limit", u64::MAX)?,
         rows: number(matches, "lines", 1, u32::MAX)?.unwrap_or(USUAL_ROWS),
@@ -90,32 +64,37 @@ fn profile_request<'a>(matches: &ArgMatches<'a>) -> Result<ProfileRequest<'a>, B
     })
 }
 
-fn debug_request<'a>(matches: &ArgMatches<'a>) -> Result<DebugRequest<'a>, BadNumber<'a>> {
+fn debug_request<'a>(matches: &ArgMatches<'a>) -> Result<DebugRequest<'a>, UsageFault<'a>> {
+    let frames = frames(matches)?;
+    let record = matches.get_str("replay");
+    // Only a run on flat memory goes by a record.
+    if frames.is_some() && record.is_some() {
+        return Err(UsageFault::Option {
+            option: "replay",
+            with: "with --frames",
+        });
+    }
     Ok(DebugRequest {
-        frames: frames(matches)?,
+        frames,
         input: matches.get_str("input"),
+        record,
         image: image(matches),
     })
 }
 
 fn replay_request<'a>(matches: &ArgMatches<'a>) -> ReplayRequest<'a> {
     ReplayRequest {
-        record: word(matches, "record"),
+        record: text(matches, "record"),
         image: image(matches),
     }
 }
 
 /// The image's name.
 fn image<'a>(matches: &ArgMatches<'a>) -> &'a str {
-    word(matches, "image")
+    text(matches, "image")
 }
 
-/// A word without which words make no request.
-fn word<'a>(matches: &ArgMatches<'a>, name: &str) -> &'a str {
-    matches.get_str(name).unwrap_or("")
-}
-
-fn frames<'a>(matches: &ArgMatches<'a>) -> Result<Option<u32>, BadNumber<'a>>
+fn frames<'a>(matches: &ArgMatches<'a>) -> Result<Option<u32>, UsageFault<'a>>
     ensures { IfOk result (λ found. IfSome found (λ frames. (4 ≤ frames) × (frames ≤ 4096))) }
 {
     number(matches, "frames", 4, 4096)
@@ -126,36 +105,9 @@ fn steps_or<'a>(
     matches: &ArgMatches<'a>,
     name: &'static str,
     default: u64,
-) -> Result<u64, BadNumber<'a>> {
+) -> Result<u64, UsageFault<'a>> {
     match number(matches, name, 1, u32::MAX)? {
         Some(steps) => Ok(u64::from(steps)),
         None => Ok(default),
     }
-}
-
-/// The number of an option, from `least` to `most`, where it is given.
-fn number<'a>(
-    matches: &ArgMatches<'a>,
-    name: &'static str,
-    least: u32,
-    most: u32,
-) -> Result<Option<u32>, BadNumber<'a>>
-    ensures { IfOk result (λ found. IfSome found (λ number. (least ≤ number) × (number ≤ most))) }
-{
-    let Some(text) = matches.get_str(name) else {
-        return Ok(None);
-    };
-    match numeral(text.as_bytes(), 10, most) {
-        Some(number) if number >= least && number <= most => Ok(Some(number)),
-        _ => Err(BadNumber {
-            name,
-            word: text,
-            least,
-            most,
-        }),
-    }
-}
-
-fn is_given(matches: &ArgMatches<'_>, name: &str) -> bool {
-    matches.get_str(name) == Some("true")
 }

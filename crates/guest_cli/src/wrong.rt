@@ -1,5 +1,6 @@
 //! What is wrong with the words that the program was given.
 
+use guest_io::UsageFault;
 use image_files::Fault;
 use record_commands::RecordsFault;
 use std::alloc::AllocError;
@@ -12,21 +13,15 @@ pub(crate) enum Wrong<'a> {
     /// Of a command on records.
     #[error("{0}")]
     Records(RecordsFault<'a>),
-    /// Words that are no request, as the library that reads them says it in its first line.
-    #[error("bad usage: {0}")]
-    Words(String),
-    #[error("bad usage: {0}")]
-    Number(BadNumber<'a>),
-}
-
-/// A word that is no number of those that an option may have.
-#[derive(Clone, Copy, Debug, thiserror::Error)]
-#[error("--{name} {word}: a number from {least} to {most} is wanted")]
-pub(crate) struct BadNumber<'a> {
-    pub(crate) name: &'static str,
-    pub(crate) word: &'a str,
-    pub(crate) least: u32,
-    pub(crate) most: u32,
+    /// Words that are no request.
+    #[error("{0}")]
+    Usage(UsageFault<'a>),
+    /// The file of this name, or the option that is missing, is not the input of a record.
+    #[error("{0}: not the input of the record")]
+    OtherInput(&'a str),
+    /// This image did not run again as it ran before.
+    #[error("{0}: the run is another one this time")]
+    OtherRun(&'a str),
 }
 
 impl<'a> From<Fault<'a>> for Wrong<'a> {
@@ -41,9 +36,9 @@ impl<'a> From<RecordsFault<'a>> for Wrong<'a> {
     }
 }
 
-impl<'a> From<BadNumber<'a>> for Wrong<'a> {
-    fn from(number: BadNumber<'a>) -> Self {
-        Wrong::Number(number)
+impl<'a> From<UsageFault<'a>> for Wrong<'a> {
+    fn from(fault: UsageFault<'a>) -> Self {
+        Wrong::Usage(fault)
     }
 }
 

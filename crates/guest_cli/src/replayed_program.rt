@@ -1,0 +1,66 @@
+//! The program of a record.
+
+use crate::wrong::Wrong;
+use elf_image::Image;
+use flat_machine::FlatProcess;
+use image_files::{Fault, Folder, image_in, read_input};
+use record_commands::RecordsFault;
+use run_paths::Program;
+use run_records::{Record, RecordFault, ReplayFault, is_print_of, read_record, replay};
+use std::alloc::Global;
+
+/// The record that a file holds.
+pub(crate) fn read_told<'a, R: Folder + AllocGlobal>(
+    rt: &R,
+    name: &'a str,
+) -> Result<Record, RecordsFault<'a>> {
+    let text = rt.read(name)?;
+    match read_record(rt.alloc(), text.as_slice()) {
+        Ok(told) => Ok(told),
+        Err(RecordFault::NoMemory) => Err(RecordsFault::Fault(Fault::NoMemory)),
+        Err(fault) => Err(RecordsFault::NoRecord(name, fault)),
+    }
+}
+
+/// The image that a file holds, if it is the file of a record's.
+pub(crate) fn read_recorded_image<'a, R: Folder + AllocGlobal>(
+    rt: &R,
+    name: &'a str,
+    told: &Record,
+) -> Result<Image, RecordsFault<'a>> {
+    let file = rt.read(name)?;
+    if !is_print_of(&told.image, file.as_slice()) {
+        return Err(RecordsFault::OtherImage(name));
+    }
+    Ok(image_in(rt.alloc(), file, name)?)
+}
+
+/// The bytes of an input's file, if they are those of a record's.
+pub(crate) fn read_recorded_input<'a, R: Folder + AllocGlobal>(
+    rt: &R,
+    name: Option<&'a str>,
+    told: &Record,
+) -> Result<Vec<u8>, Wrong<'a>> {
+    let input = read_input(rt, name)?;
+    if is_print_of(&told.input, input.as_slice()) {
+        Ok(input)
+    } else {
+        Err(Wrong::OtherInput(name.unwrap_or("--input")))
+    }
+}
+
+/// Refuses a record that does not replay.
+pub(crate) fn check_record<'a>(
+    alloc: Global,
+    name: &'a str,
+    program: &Program,
+    told: &Record,
+) -> Result<(), RecordsFault<'a>> {
+    let input = Vec::from_slice(alloc, program.input.as_slice())?;
+    let mut process = FlatProcess::new(alloc, &program.image, input)?;
+    match replay(alloc, &mut process, told) {
+        Ok(()) => Ok(()),
+        Err(ReplayFault::NoMemory) => Err(RecordsFault::Fault(Fault::NoMemory)),
+        Err(fault) => Err(RecordsFault::NoReplay(name, fault)),
+    }
+}

@@ -13,7 +13,7 @@ use crate::request::{Driver, RecordRequest};
 use crate::told::record_of;
 use elf_image::Image;
 use guest_frames::play_process;
-use guest_io::{read_whole, status_of, tell_end};
+use guest_io::{WholeFiles, read_whole, status_of, tell_end};
 use hart_carriers::CrewRequest;
 use image_files::{Folder, image_in};
 use machine_sides::ProcessReport;
@@ -33,7 +33,7 @@ pub fn run_record<'a, R, I, O, E>(
     err: &mut E,
 ) -> Result<u8, RecorderFault<'a>>
 where
-    R: Folder + AllocGlobal + Threads + Wait + Sync,
+    R: Folder + WholeFiles + AllocGlobal + Threads + Wait + Sync,
     I: Read + Drop,
     O: Write,
     E: Write,
@@ -88,7 +88,7 @@ fn run_machine<'a, R: Folder + AllocGlobal + Threads + Wait + Sync>(
 }
 
 /// Writes a record to a file, and returns of how many bytes it is.
-fn save<'a, R: Folder + AllocGlobal>(
+fn save<'a, R: WholeFiles + AllocGlobal>(
     rt: &R,
     name: &'a str,
     told: &Record,
@@ -97,7 +97,7 @@ fn save<'a, R: Folder + AllocGlobal>(
     if write_record(told, &mut text).is_err() {
         return Err(RecorderFault::NotWritten(name));
     }
-    match rt.write(name, text.as_slice()) {
+    match rt.put(name, text.as_slice()) {
         Ok(()) => Ok(text.len()),
         Err(_) => Err(RecorderFault::NotWritten(name)),
     }

@@ -1,5 +1,6 @@
 //! Why a run is not recorded.
 
+use guest_io::UsageFault;
 use image_files::Fault;
 use std::alloc::AllocError;
 use std::io;
@@ -10,22 +11,9 @@ use thiserror::Error;
 pub enum RecorderFault<'a> {
     #[error("{0}")]
     Fault(Fault<'a>),
-    /// Words that are no request, as the library that reads them says it in its first line.
-    #[error("bad usage: {0}")]
-    Words(String),
-    #[error("bad usage: --{name} {word}: a number from {least} to {most} is wanted")]
-    Number {
-        name: &'static str,
-        word: &'a str,
-        least: u32,
-        most: u32,
-    },
-    /// An option that is only for one thread, or only for several.
-    #[error("bad usage: --{option} can't be used {with}")]
-    Option {
-        option: &'static str,
-        with: &'static str,
-    },
+    /// Words that are no request, or options of the other way to run.
+    #[error("{0}")]
+    Usage(UsageFault<'a>),
     /// The machine's audit found something amiss, so that its run is no flat run.
     #[error("the audit of the machine found a fault: the run is not recorded")]
     NotSound,
@@ -36,6 +24,12 @@ pub enum RecorderFault<'a> {
 impl<'a> From<Fault<'a>> for RecorderFault<'a> {
     fn from(fault: Fault<'a>) -> Self {
         RecorderFault::Fault(fault)
+    }
+}
+
+impl<'a> From<UsageFault<'a>> for RecorderFault<'a> {
+    fn from(fault: UsageFault<'a>) -> Self {
+        RecorderFault::Usage(fault)
     }
 }
 

@@ -3,6 +3,7 @@
 use crate::command::run_record;
 use crate::fault::RecorderFault;
 use crate::requests::read_request;
+use guest_io::WholeFiles;
 use image_files::{Fault, Folder};
 use std::convert::AsStr;
 use std::io::{Read, Write};
@@ -16,7 +17,7 @@ const FAULT: u8 = 126;
 /// guest, or 126 for a fault, which is printed to `err`.
 pub fn record_program<R, S, I, O, E>(rt: &R, words: &[S], input: I, out: &mut O, err: &mut E) -> u8
 where
-    R: Folder + AllocGlobal + Threads + Wait + Sync,
+    R: Folder + WholeFiles + AllocGlobal + Threads + Wait + Sync,
     S: AsStr,
     I: Read + Drop,
     O: Write,
@@ -41,7 +42,7 @@ fn run_words<'a, R, S, I, O, E>(
     err: &mut E,
 ) -> Result<u8, RecorderFault<'a>>
 where
-    R: Folder + AllocGlobal + Threads + Wait + Sync,
+    R: Folder + WholeFiles + AllocGlobal + Threads + Wait + Sync,
     S: AsStr,
     I: Read + Drop,
     O: Write,

@@ -1,17 +1,15 @@
 //! From words to a request.
 
-ghost use Rattle.std.specs.Prelude.{◌≤◌, IfOk, IfSome};
+ghost use Rattle.std.specs.Prelude.{IfOk};
 ghost use Rattle.run_recorder.specs.Requests.{IsInRange, IsManned};
 
 use crate::commands::guest;
 use crate::fault::RecorderFault;
 use crate::request::{Driver, RecordRequest};
 use clap::ArgMatches;
-use clap::error::ErrorKind;
-use image_files::Fault;
+use guest_io::{UsageFault, is_given, number, text, wrong_words};
 use std::alloc::Global;
 use std::convert::AsStr;
-use text_lines::numeral;
 
 /// How many frames a machine has where no number is asked for.
 const USUAL_FRAMES: u32 = 64;
@@ -43,7 +41,7 @@ pub fn read_request<'a, S: AsStr>(
             Some((_, matches)) => request_of(matches),
             None => request_of(&matches),
         },
-        Err(error) => Err(wrong_words(alloc, &error)),
+        Err(error) => Err(RecorderFault::Usage(wrong_words(alloc, &error))),
     }
 }
 
@@ -92,61 +90,5 @@ fn driver<'a>(matches: &ArgMatches<'a>) -> Result<Driver, RecorderFault<'a>>
 }
 
 fn not_with<'a>(option: &'static str, with: &'static str) -> RecorderFault<'a> {
-    RecorderFault::Option { option, with }
-}
-
-/// Why words are no request: the first line of what the library says, without its `error: `.
-fn wrong_words<'a>(alloc: Global, error: &clap::Error) -> RecorderFault<'a> {
-    if matches!(error.kind(), ErrorKind::OutOfMemory) {
-        return RecorderFault::Fault(Fault::NoMemory);
-    }
-    let Ok(text) = format!(in alloc; "{error}") else {
-        return RecorderFault::Fault(Fault::NoMemory);
-    };
-    let mut lines = text.lines();
-    let line = lines.next().unwrap_or("");
-    let reason = line.strip_prefix("error: ").unwrap_or(line);
-    // Behind a colon the next line names the argument.
-    let rest = if reason.ends_with(':') {
-        lines.next().unwrap_or("").trim_start()
-    } else {
-        ""
-    };
-    let space = if rest.is_empty() { "" } else { " " };
-    match format!(in alloc; "{reason}{space}{rest}") {
-        Ok(reason) => RecorderFault::Words(reason),
-        Err(_) => RecorderFault::Fault(Fault::NoMemory),
-    }
-}
-
-/// The number of an option, from `least` to `most`, where it is given.
-fn number<'a>(
-    matches: &ArgMatches<'a>,
-    name: &'static str,
-    least: u32,
-    most: u32,
-) -> Result<Option<u32>, RecorderFault<'a>>
-    ensures { IfOk result (λ found. IfSome found (λ number. (least ≤ number) × (number ≤ most))) }
-{
-    let Some(word) = matches.get_str(name) else {
-        return Ok(None);
-    };
-    match numeral(word.as_bytes(), 10, most) {
-        Some(number) if number >= least && number <= most => Ok(Some(number)),
-        _ => Err(RecorderFault::Number {
-            name,
-            word,
-            least,
-            most,
-        }),
-    }
-}
-
-/// A word that the command requires.
-fn text<'a>(matches: &ArgMatches<'a>, name: &str) -> &'a str {
-    matches.get_str(name).unwrap_or("")
-}
-
-fn is_given(matches: &ArgMatches<'_>, name: &str) -> bool {
-    matches.get_str(name) == Some("true")
+    RecorderFault::Usage(UsageFault::Option { option, with })
 }

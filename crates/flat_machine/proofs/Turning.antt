@@ -49,12 +49,12 @@ ran_from (Ok steps) turn first then before after is ran = (then, ap (λ t. by_tu
 ran_from (Err stop) turn first then before after is ran = tt
 
 -- memory is wanted for the next step
-pub wants_now : (hart : ℕ) (process : Process) → WantsMemory hart process → WantsAt hart process 0 process
-wants_now hart process wants = record { turn = hart; ran = by_turns_none hart process; wants = wants }
+pub wants_now : (hart : ℕ) (process : Process) → WantsMemory hart process → WantsAt hart process 0 hart process
+wants_now hart process wants = record { ran = by_turns_none hart process; wants = wants }
 
-pub wants_after : (n hart turn : ℕ) (before between : Process) → by_turns n hart before ≡ Some (turn, between) → WantsMemory turn between → WantsAt hart before n between
-wants_after n hart turn before between ran wants = record { turn = turn; ran = ran; wants = wants }
+pub wants_after : (n hart turn : ℕ) (before between : Process) → by_turns n hart before ≡ Some (turn, between) → WantsMemory turn between → WantsAt hart before n turn between
+wants_after n hart turn before between ran wants = record { ran = ran; wants = wants }
 
-pub wants_later : (n m hart turn : ℕ) (before between after : Process) → by_turns n hart before ≡ Some (turn, between) → WantsAt turn between m after → WantsAt hart before (n + m) after
-wants_later n m hart turn before between after ran later =
-    record { turn = later.turn; ran = more_turns n m hart turn later.turn before between after ran later.ran; wants = later.wants }
+pub wants_later : (n m hart turn then : ℕ) (before between after : Process) → by_turns n hart before ≡ Some (turn, between) → WantsAt turn between m then after → WantsAt hart before (n + m) then after
+wants_later n m hart turn then before between after ran later =
+    record { ran = more_turns n m hart turn then before between after ran later.ran; wants = later.wants }

@@ -27,8 +27,7 @@ pub record StopsAt (harts : List ℕ) (before : Process) (refusal : StepRefusal)
   pub ran : flat_run (take done harts) before ≡ Some after
   pub refused : RefusesStep refusal (slice_index harts done) after
 
--- a run by turns, from a hart's turn on, wants memory for its next step after so many that were done
-pub record WantsAt (hart : ℕ) (before : Process) (done : ℕ) (after : Process) : Type 0 where
-  pub turn : ℕ
+-- a run by turns, from a hart's turn on, wants memory for its next step after so many that were done: it is the turn of this hart then
+pub record WantsAt (hart : ℕ) (before : Process) (done turn : ℕ) (after : Process) : Type 0 where
   pub ran : by_turns done hart before ≡ Some (turn, after)
   pub wants : WantsMemory turn after

@@ -30,7 +30,7 @@ impl FlatProcess {
         ensures within { IfOk result (λ steps. steps ≤ limit) }
         ensures ended { IfOk result (λ steps. steps < limit → IsSome self.new.ending) }
         ensures memory { IfErr result (λ stop. (stop.steps < limit) ×
-            WantsAt (first_turn self.old) self.old stop.steps self.new) }
+            ((turn : ℕ) × WantsAt (first_turn self.old) self.old stop.steps turn self.new)) }
     {
         let mut turn = self.first_turn();
         self.run_turns(&mut turn, limit)
@@ -45,7 +45,7 @@ impl FlatProcess {
         ensures within { IfOk result (λ steps. steps ≤ most) }
         ensures ended { IfOk result (λ steps. steps < most → IsSome self.new.ending) }
         ensures memory { IfErr result (λ stop. (stop.steps < most) ×
-            WantsAt turn.old self.old stop.steps self.new) }
+            WantsAt turn.old self.old stop.steps turn.new self.new) }
         ensures live { is_live turn.new self.new ≡ true }
     {
         let mut steps: u64 = 0;
@@ -74,7 +74,7 @@ impl FlatProcess {
             Some (turn_after hart self.new, self.new)) }
         ensures within { IfOk result (λ steps. (0 < steps) × (steps ≤ most)) }
         ensures memory { IfErr result (λ stop. (stop.steps < most) ×
-            WantsAt hart self.old stop.steps self.new) }
+            WantsAt hart self.old stop.steps hart self.new) }
         ensures live { OnErr result (is_live hart self.new ≡ true) }
     {
         if self.turn_after(hart) == hart {
@@ -96,7 +96,7 @@ impl FlatProcess {
         ensures some { IfOk result (λ steps. 0 < most → 0 < steps) }
         ensures within { IfOk result (λ steps. steps ≤ most) }
         ensures memory { IfErr result (λ stop. (stop.steps < most) ×
-            WantsAt hart self.old stop.steps self.new) }
+            WantsAt hart self.old stop.steps hart self.new) }
         ensures live { OnErr result (is_live hart self.new ≡ true) }
     {
         let mut steps: u64 = 0;

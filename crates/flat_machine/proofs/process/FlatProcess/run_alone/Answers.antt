@@ -41,7 +41,7 @@ returns-in-Err-clause-memory c =
     let plain = c.step_plainly-course in
     let before = more_turns c.loop-steps.steps plain.result.done c.args.hart c.args.hart c.args.hart c.args.self.now c.loop-steps.self plain.new.self c.loop-steps.invariant.ran (plain.ensures.alone c.loop-steps.invariant.alone) in (
       omega (arith, plain.ensures.within, c.if-steps-most.false, c.loop-steps-test.true),
-      subst (λ p. WantsAt c.args.hart c.args.self.now (c.loop-steps.steps + plain.result.done) p) (sym c.in-Err.ensures.err)
+      subst (λ p. WantsAt c.args.hart c.args.self.now (c.loop-steps.steps + plain.result.done) c.args.hart p) (sym c.in-Err.ensures.err)
           (wants_after (c.loop-steps.steps + plain.result.done) c.args.hart c.args.hart c.args.self.now plain.new.self before c.in-Err.ensures.wants),
     )
 

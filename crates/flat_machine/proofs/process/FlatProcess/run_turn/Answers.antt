@@ -11,7 +11,7 @@ returns-in-Ok-clause-ran c = by_turns_one c.args.hart c.args.self.now c.step_liv
 
 pub returns-in-Err-clause-memory : goal.returns-in-Err-clause-memory
 returns-in-Err-clause-memory c =
-    (c.requires.some, subst (WantsAt c.args.hart c.args.self.now 0) (sym c.in-Err.ensures.err) (wants_now c.args.hart c.args.self.now c.in-Err.ensures.wants))
+    (c.requires.some, subst (WantsAt c.args.hart c.args.self.now 0 c.args.hart) (sym c.in-Err.ensures.err) (wants_now c.args.hart c.args.self.now c.in-Err.ensures.wants))
 
 pub returns-in-Err-clause-live : goal.returns-in-Err-clause-live
 returns-in-Err-clause-live c = is_live_in c.args.hart c.step_live.new.self (subst (λ p. may_step c.args.hart p ≡ true) (sym c.in-Err.ensures.err) c.requires.may)

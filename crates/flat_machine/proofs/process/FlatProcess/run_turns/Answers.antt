@@ -10,7 +10,7 @@ pub returns-in-Err-clause-memory : goal.returns-in-Err-clause-memory
 returns-in-Err-clause-memory c =
     let fewer = c.in-Err.ensures.memory.0 in (
       omega arith,
-      wants_later c.loop-steps.steps c.in-Err.stop.steps c.args.turn.now c.loop-steps.turn c.args.self.now c.loop-steps.self c.run_turn.new.self c.loop-steps.invariant.ran c.in-Err.ensures.memory.1,
+      wants_later c.loop-steps.steps c.in-Err.stop.steps c.args.turn.now c.loop-steps.turn c.loop-steps.turn c.args.self.now c.loop-steps.self c.run_turn.new.self c.loop-steps.invariant.ran c.in-Err.ensures.memory.1,
     )
 
 pub loop-steps-preserved : goal.loop-steps-preserved

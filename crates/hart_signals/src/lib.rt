@@ -6,9 +6,11 @@
 
 mod bell;
 mod callers;
+mod frames;
 mod harts;
 mod reclaiming;
 mod signals;
+mod signs;
 
 pub use bell::Bell;
 pub use callers::Callers;

@@ -8,6 +8,7 @@
 
 mod failure;
 mod harts;
+mod heeding;
 mod patience;
 mod reporting;
 mod serial;

@@ -13,9 +13,10 @@ ghost use Rattle.serial_driver.specs.Turning.{IsInTurn};
 ghost use Rattle.serial_driver.specs.TurnsDuty.{duty_of, stage_owes, turn_of};
 
 use crate::harts::HartOf;
+use crate::heeding::is_out_of_memory;
 use crate::patience::{Patience, has_run, is_served};
 use crate::serial::what_is_next;
-use crate::turns::{Next, Turns, is_out_of_memory};
+use crate::turns::{Next, Turns};
 use clock_policy::Clock;
 use machine_core::{Core, Event, Reply};
 use std::sync::ledger::Ledger;

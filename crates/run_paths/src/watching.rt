@@ -1,15 +1,15 @@
 //! Watches: the bytes of each as they were, against those of a process; and breaks.
 
-ghost use Rattle.std.specs.Prelude.{◌≡◌, ℕ, ◌+◌, ◌^◌, ◌≤◌, None, Some, length};
+ghost use Rattle.std.specs.Prelude.{◌≡◌, ◌≤◌, length};
 ghost use Rattle.std.specs.List.{position_from};
 ghost use Rattle.page_memory.specs.Memory.{Memory};
 ghost use Rattle.flat_machine.specs.Process.{hart_registers};
-ghost use Rattle.debug_core.specs.Points.{any_changed, bytes_from, has_changed, is_break_at, is_hit, ArePoints, IsPoint};
+ghost use Rattle.debug_core.specs.Points.{is_hit, ArePoints, IsPoint};
 ghost use Rattle.debug_core.specs.Seen.{AreSeen, IsSeen};
 ghost use Rattle.debug_core.specs.Stops.{break_at};
 ghost use Rattle.run_paths.specs.Meeting.{first_hit};
 
-use debug_core::{MOST_WATCHED, Point};
+use debug_core::{MOST_WATCHED, Point, any_changed, break_before, read_all};
 use flat_machine::FlatProcess;
 
 /// The bytes of a watch, and nothing behind them.
@@ -67,41 +67,6 @@ fn look_at(process: &FlatProcess, point: Option<Point>, seen: &mut Window) -> bo
     hit
 }
 
-/// Reads the bytes from an address on.
-fn read_all(process: &FlatProcess, address: u32, bytes: &mut [Option<u8>])
-    requires { address + length bytes.old ≤ 2 ^ 32 }
-    ensures { bytes.new ≡ bytes_from process.now.memory address (length bytes.old) }
-{
-    'bytes: for i in 0..bytes.len() {
-        bytes[i] = process.byte(address + i as u32);
-    }
-}
-
-/// Whether one of some bytes was there, and is not what it was.
-#[tactic(auto, using(debug_core::proofs::Watching::changed_stops, debug_core::proofs::Watching::changed_goes_on, debug_core::proofs::Watching::changed_ends))]
-fn any_changed(before: &[Option<u8>], now: &[Option<u8>]) -> bool
-    requires { length before.now ≡ length now.now }
-    ensures { result ≡ any_changed before.now now.now }
-{
-    'bytes: for i in 0..before.len() {
-        if has_changed(before[i], now[i]) {
-            return true;
-        }
-    }
-    false
-}
-
-/// Whether a byte was there, and is not what it was.
-fn has_changed(was: Option<u8>, now: Option<u8>) -> bool
-    ensures { result ≡ has_changed was now }
-{
-    match (was, now) {
-        (None, _) => false,
-        (Some(_), None) => true,
-        (Some(was), Some(now)) => was != now,
-    }
-}
-
 /// The number of the first break at which a hart stands.
 pub(crate) fn break_at(process: &FlatProcess, hart: u32, points: &[Option<Point>]) -> Option<u32>
     requires few { length points.now ≤ 32 }
@@ -109,27 +74,4 @@ pub(crate) fn break_at(process: &FlatProcess, hart: u32, points: &[Option<Point>
 {
     let pc = process.regs(hart)?.pc();
     break_before(pc, points)
-}
-
-/// The number of the first break at an address.
-fn break_before(pc: u32, points: &[Option<Point>]) -> Option<u32>
-    requires few { length points.now ≤ 32 }
-    ensures { result ≡ position_from (is_break_at pc) 0 points.now }
-{
-    'points: for number in 0..points.len() {
-        if is_break_at(pc, points[number]) {
-            return Some(number as u32);
-        }
-    }
-    None
-}
-
-/// Whether a point is a break at an address.
-fn is_break_at(pc: u32, point: Option<Point>) -> bool
-    ensures { result ≡ is_break_at pc point }
-{
-    match point {
-        Some(Point::Break { address }) => address == pc,
-        _ => false,
-    }
 }

@@ -12,6 +12,7 @@ ghost use Rattle.serial_driver.specs.Turning.{Turn, begun, noticed_in, paged_in,
 ghost use Rattle.serial_driver.specs.Turning.{ran_turn, step_turn, swept_turn, waiting};
 ghost use Rattle.serial_driver.specs.TurnsDuty.{cause_of, duty_of, phase_of, turn_of};
 ghost use Rattle.flat_machine.specs.declared.end.KillCause.TheVariants as cause;
+ghost use Rattle.machine_core.specs.declared.event.Event.TheVariants as machine;
 
 use crate::failure::Failure;
 use crate::harts::HartOf;

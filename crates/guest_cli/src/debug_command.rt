@@ -4,12 +4,13 @@ ghost use Rattle.std.specs.Prelude.{IfOk};
 ghost use Rattle.guest_history.specs.Histories.{Stands};
 
 use crate::frame_machine::FrameMachine;
-use crate::replayed_program::{check_record, read_recorded_image, read_recorded_input, read_told};
+use crate::replayed_program::{check_record, read_recorded_input};
 use crate::request::DebugRequest;
 use crate::wrong::Wrong;
 use debug_session::SessionFault;
 use guest_history::{History, HistoryFault, converse_back};
 use image_files::{Fault, Folder, read_image, read_input};
+use record_commands::{read_recorded_image, read_told};
 use run_paths::{Program, RunFault};
 use std::alloc::Global;
 use std::io::{Read, Write};

@@ -1,39 +1,12 @@
 //! The program of a record.
 
 use crate::wrong::Wrong;
-use elf_image::Image;
 use flat_machine::FlatProcess;
-use image_files::{Fault, Folder, image_in, read_input};
+use image_files::{Fault, Folder, read_input};
 use record_commands::RecordsFault;
 use run_paths::Program;
-use run_records::{Record, RecordFault, ReplayFault, is_print_of, read_record, replay};
+use run_records::{Record, ReplayFault, is_print_of, replay};
 use std::alloc::Global;
-
-/// The record that a file holds.
-pub(crate) fn read_told<'a, R: Folder + AllocGlobal>(
-    rt: &R,
-    name: &'a str,
-) -> Result<Record, RecordsFault<'a>> {
-    let text = rt.read(name)?;
-    match read_record(rt.alloc(), text.as_slice()) {
-        Ok(told) => Ok(told),
-        Err(RecordFault::NoMemory) => Err(RecordsFault::Fault(Fault::NoMemory)),
-        Err(fault) => Err(RecordsFault::NoRecord(name, fault)),
-    }
-}
-
-/// The image that a file holds, if it is the file of a record's.
-pub(crate) fn read_recorded_image<'a, R: Folder + AllocGlobal>(
-    rt: &R,
-    name: &'a str,
-    told: &Record,
-) -> Result<Image, RecordsFault<'a>> {
-    let file = rt.read(name)?;
-    if !is_print_of(&told.image, file.as_slice()) {
-        return Err(RecordsFault::OtherImage(name));
-    }
-    Ok(image_in(rt.alloc(), file, name)?)
-}
 
 /// The bytes of an input's file, if they are those of a record's.
 pub(crate) fn read_recorded_input<'a, R: Folder + AllocGlobal>(

@@ -1,7 +1,7 @@
 -- Points that are put in one after another.
-use Rattle.std.proofs.Common.{◌≡◌, ℕ, zero, suc, ◌+◌, ◌-◌, ◌<◌, ◌≤◌, List, [], ◌∷◌, ◌++◌, length, take, drop, map, replicate, slice_index_or, slice_set, Option, Some, None, unwrap_or, is_none, refl, sym, ap, ◌∙◌, arith, append-nil, append_assoc, length-take}
+use Rattle.std.proofs.Common.{◌≡◌, ℕ, zero, suc, ◌+◌, ◌-◌, ◌<◌, List, [], ◌∷◌, ◌++◌, length, take, drop, map, replicate, slice_index_or, slice_set, Option, Some, None, unwrap_or, is_none, refl, sym, ap, ◌∙◌, arith, append_assoc, length-take}
 use Rattle.std.specs.List.{position_from}
-use Rattle.std.proofs.lemmas.List.{take_all, take_more, map-append, drop_all, length-map}
+use Rattle.std.proofs.lemmas.List.{take_more, map-append}
 use Rattle.debug_core.specs.Debugging.{lowest_free}
 use Rattle.debug_core.specs.declared.point.Point.{Point}
 use Rattle.guest_history.specs.Filling.{filled}

@@ -4,3 +4,8 @@ pub mod MovesOn
 pub mod GoneOn
 pub mod Stopping
 pub mod SameRuns
+pub mod CutLines
+pub mod Conversed
+pub mod ByRecord
+pub mod OwnLines
+pub mod Gone

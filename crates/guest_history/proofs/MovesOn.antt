@@ -4,7 +4,6 @@ use Rattle.std.proofs.lemmas.Option.{none-some}
 use Rattle.flat_machine.specs.ByTurns.{turn_after}
 use Rattle.flat_machine.specs.Process.{Process, flat_step}
 use Rattle.debug_core.specs.Debugging.{DebuggerValue, first_moment, lone_moment, turn_left}
-use Rattle.debug_core.specs.Limits.{Limit}
 use Rattle.debug_core.specs.Stops.{Moment, Stops, StopsFor, moment_after, next_moment, turn_next}
 use Rattle.debug_core.specs.declared.point.Point.{Point}
 use Rattle.debug_core.specs.declared.point.Why.{Why}
@@ -13,18 +12,12 @@ use Rattle.debug_core.specs.declared.point.Why.TheVariants as stop
 use Rattle.run_paths.specs.declared.path.Whose.TheVariants.{ByTurns, Hart}
 use Rattle.run_paths.specs.declared.path.Stretch.{Stretch}
 use Rattle.run_paths.specs.declared.running.Place.{Place}
+use Rattle.guest_history.specs.Going.{lacks, shows}
 use Rattle.guest_history.specs.Histories.{place_of}
 use Rattle.run_paths.specs.Paths.{along, step_by, whose_at}
 use Rattle.run_paths.proofs.Along.{along_none, along_more, whose_here}
 
--- a flat process lacks nothing
-abbrev pub shows : Process → Process
-shows process = process
-
-abbrev pub lacks : Process → Limit → Type 0
-lacks process limit = ⊥
-
-stopped_at : (full : Type 0) (why : Why) (points : List (Option Point)) (limit count : ℕ) (now : Moment) (process : Process) → (full → ⊥) → StopsFor shows lacks full why points limit count now process → process ≡ now.process
+pub stopped_at : (full : Type 0) (why : Why) (points : List (Option Point)) (limit count : ℕ) (now : Moment) (process : Process) → (full → ⊥) → StopsFor shows lacks full why points limit count now process → process ≡ now.process
 stopped_at full Ended points limit count now process room s = elim s [ inl h ↦ h.0 | inr h ↦ absurd (room h.1.1) ]
 stopped_at full (Watch number) points limit count now process room s = s.0
 stopped_at full Gone points limit count now process room s = s.0
@@ -32,7 +25,7 @@ stopped_at full (Break number) points limit count now process room s = s.0
 stopped_at full stop.Limit points limit count now process room s = s.0
 stopped_at full Absent points limit count now process room s = s.0
 
-some_moment : (a b : Moment) → ◌≡◌ {A = Option Moment} (Some a) (Some b) → a ≡ b
+pub some_moment : (a b : Moment) → ◌≡◌ {A = Option Moment} (Some a) (Some b) → a ≡ b
 some_moment a b e = ap (λ (o : Option Moment). unwrap_or o a) e
 
 -- ---- by turns
@@ -57,7 +50,7 @@ next_by_turns path n first m now alone led whose e = by_step (flat_step m.turn m
               ∙ ap (λ b. Some (record { turn = turn_next b m.turn next; process = next })) (sym alone) ∙ ap (λ (x : Moment). Some (place_at x)) same,
         )
 
-before_next : (n : ℕ) (first now : Moment) → moment_after (suc n) first ≡ Some now → (m : Moment) × ((moment_after n first ≡ Some m) × (next_moment m ≡ Some now))
+pub before_next : (n : ℕ) (first now : Moment) → moment_after (suc n) first ≡ Some now → (m : Moment) × ((moment_after n first ≡ Some m) × (next_moment m ≡ Some now))
 unfolding moment_after
 before_next n first now e = by_before (moment_after n first) refl e
   where
@@ -65,7 +58,7 @@ before_next n first now e = by_before (moment_after n first) refl e
     by_before None is f = absurd (none-some now f)
     by_before (Some m) is f = (m, (is, f))
 
-none_done : (first now : Moment) → moment_after 0 first ≡ Some now → first ≡ now
+pub none_done : (first now : Moment) → moment_after 0 first ≡ Some now → first ≡ now
 unfolding moment_after
 none_done first now e = some_moment first now e
 
@@ -105,7 +98,7 @@ next_alone path n hart turn first m now alone led whose e = by_step (flat_step m
               ∙ ap (λ (x : Moment). Some (record { turn = turn_after hart x.process; process = x.process })) same,
         )
 
-alone_to : (path : List Stretch) (n hart turn : ℕ) (first now : Moment) → (first.alone ≡ true) × (first.turn ≡ hart) → ((i : ℕ) → i < n → whose_at path i ≡ Some (Hart hart)) → moment_after n first ≡ Some now
+pub alone_to : (path : List Stretch) (n hart turn : ℕ) (first now : Moment) → (first.alone ≡ true) × (first.turn ≡ hart) → ((i : ℕ) → i < n → whose_at path i ≡ Some (Hart hart)) → moment_after n first ≡ Some now
     → ((now.alone ≡ true) × (now.turn ≡ hart)) × (along path n (record { turn = turn; process = first.process }) ≡ Some (place_left n hart turn now))
 alone_to path zero hart turn first now alone all e =
     let same = none_done first now e in (

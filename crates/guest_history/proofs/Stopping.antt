@@ -1,6 +1,5 @@
 -- The last place before at which a run stops.
-use Rattle.std.proofs.Common.{◌≡◌, ℕ, zero, suc, refl, ◌+◌, ◌<◌, ◌≤◌, true, false, is_some, Option, Some, None, sym, ap, ◌∙◌, inl, inr, arith}
-use Rattle.std.proofs.lemmas.Bool.{cases_lt, false≢true}
+use Rattle.std.proofs.Common.{◌≡◌, ℕ, zero, suc, refl, ◌<◌, ◌≤◌, Some, None, ap, ◌∙◌, arith}
 use Rattle.run_paths.specs.declared.searching.Met.{Met}
 use Rattle.run_paths.specs.Meeting.{LastMet}
 use Rattle.guest_history.specs.declared.history.History.{History}

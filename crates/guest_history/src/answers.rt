@@ -1,14 +1,31 @@
 //! What a debugger that goes back does for a line, and replies.
 
 ghost use Rattle.std.specs.Prelude.{◌≡◌, false, IfOk, OnOk, slice_set};
-ghost use Rattle.guest_history.specs.Answered.{reply_at, reply_of, AnswersBack, AnswersBackGo, AnswersStep};
+ghost use Rattle.debug_session.specs.Answers.{AnswersBreak, AnswersRemove, AnswersWatch};
+ghost use Rattle.guest_history.specs.Answered.{
+  reply_at,
+  reply_of,
+  stop_reply,
+  told_reply,
+  AnswersBack,
+  AnswersBackGo,
+  AnswersGo,
+  AnswersGoHart,
+  AnswersLine,
+  AnswersLook,
+  AnswersPlain,
+  AnswersPoint,
+  AnswersRun,
+  AnswersStep,
+};
+ghost use Rattle.guest_history.specs.Going.{turn_of};
 ghost use Rattle.guest_history.specs.Histories.{IsSameRun, Looks, Stands};
 
-use crate::forward::{Stepped, Stop};
+use crate::forward::Stepped;
 use crate::history::History;
 use crate::lines::HistoryLine;
 use crate::reply::HistoryReply;
-use debug_core::{DebugRefusal, DebugStep, MOST_POINTS, Point};
+use debug_core::{DebugRefusal, DebugStep, MOST_POINTS, Point, Why};
 use debug_session::{DebugLine, DebugReply, answer};
 use run_paths::{Points, RunFault};
 use std::alloc::Global;
@@ -23,6 +40,7 @@ impl History {
         requires stands { Stands self.old }
         ensures stands { OnOk result (Stands self.new) }
         ensures same { OnOk result (IsSameRun self.old self.new) }
+        ensures answered { IfOk result (λ reply. AnswersLine line self.old reply self.new) }
     {
         match line {
             HistoryLine::Back { count } => Ok(Some(self.answer_back(alloc, count)?)),
@@ -78,6 +96,7 @@ impl History {
         requires stands { Stands self.old }
         ensures stands { OnOk result (Stands self.new) }
         ensures same { OnOk result (IsSameRun self.old self.new) }
+        ensures answered { IfOk result (λ reply. AnswersPlain line self.old reply self.new) }
     {
         match line {
             DebugLine::Break { address } => Ok(Some(self.add_break(address))),
@@ -104,6 +123,7 @@ impl History {
         requires looks { Looks line }
         ensures stands { Stands self.new }
         ensures same { IsSameRun self.old self.new }
+        ensures looked { AnswersLook line self.old result self.new }
     {
         match answer(alloc, &mut self.debugger, line) {
             Some(reply) => Some(HistoryReply::Plain(reply)),
@@ -116,6 +136,7 @@ impl History {
         requires stands { Stands self.old }
         ensures stands { Stands self.new }
         ensures same { IsSameRun self.old self.new }
+        ensures added { AnswersPoint (AnswersBreak address) self.old result self.new }
     {
         match self.debugger.add_break(address) {
             Ok(number) => {
@@ -131,6 +152,7 @@ impl History {
         requires stands { Stands self.old }
         ensures stands { Stands self.new }
         ensures same { IsSameRun self.old self.new }
+        ensures added { AnswersPoint (AnswersWatch address length) self.old result self.new }
     {
         match self.debugger.add_watch(address, length) {
             Ok(number) => {
@@ -150,6 +172,7 @@ impl History {
         requires stands { Stands self.old }
         ensures stands { Stands self.new }
         ensures same { IsSameRun self.old self.new }
+        ensures removed { AnswersPoint (AnswersRemove number) self.old result self.new }
     {
         match self.debugger.remove(number) {
             Ok(()) => {
@@ -174,25 +197,20 @@ impl History {
         requires stands { Stands self.old }
         ensures stands { OnOk result (Stands self.new) }
         ensures same { OnOk result (IsSameRun self.old self.new) }
+        ensures gone { IfOk result (λ reply. AnswersGo limit self.old reply self.new) }
     {
         let stop = self.go(alloc, u64::from(limit))?;
-        Ok(match stop.why {
-            Some(why) => HistoryReply::Plain(DebugReply::Stopped {
-                why,
-                turn: self.turn(),
-                steps: stop.steps,
-            }),
-            None => HistoryReply::RecordEnds { steps: stop.steps },
-        })
+        Ok(stop_reply(stop.why, self.turn(), stop.steps))
     }
 
     fn answer_run(&mut self, alloc: Global, limit: u32) -> Result<HistoryReply, RunFault>
         requires stands { Stands self.old }
         ensures stands { OnOk result (Stands self.new) }
         ensures same { OnOk result (IsSameRun self.old self.new) }
+        ensures gone { IfOk result (λ reply. AnswersRun limit self.old reply self.new) }
     {
         let stop = self.go(alloc, u64::from(limit))?;
-        Ok(self.told(stop))
+        Ok(told_reply(stop.why, stop.last, self.turn(), stop.steps))
     }
 
     fn answer_go_hart(
@@ -204,30 +222,41 @@ impl History {
         requires stands { Stands self.old }
         ensures stands { OnOk result (Stands self.new) }
         ensures same { OnOk result (IsSameRun self.old self.new) }
+        ensures gone { IfOk result (λ reply. AnswersGoHart hart limit self.old reply
+            self.new) }
     {
         if self.is_recorded {
             return Ok(HistoryReply::OtherHart);
         }
-        Ok(match self.go_hart(alloc, hart, u64::from(limit))? {
-            Some(stop) => self.told(stop),
-            None => HistoryReply::Plain(DebugReply::Refused(DebugRefusal::NoHart)),
-        })
-    }
-
-    fn told(&self, stop: Stop) -> HistoryReply {
-        match stop.why {
-            Some(why) => HistoryReply::Plain(DebugReply::Told {
-                why,
-                last: stop.last,
-                turn: self.turn(),
-                steps: stop.steps,
-            }),
-            None => HistoryReply::ToldRecordEnds {
-                last: stop.last,
-                turn: self.turn(),
-                steps: stop.steps,
-            },
+        match self.go_hart(alloc, hart, u64::from(limit))? {
+            Some(stop) => Ok(told_reply(stop.why, stop.last, self.turn(), stop.steps)),
+            None => Ok(HistoryReply::Plain(DebugReply::Refused(DebugRefusal::NoHart))),
         }
+    }
+}
+
+/// What is replied where a run has come to this, and it is the turn of a hart.
+fn stop_reply(why: Option<Why>, turn: u32, steps: u64) -> HistoryReply
+    ensures { result ≡ stop_reply why turn steps }
+{
+    match why {
+        Some(why) => HistoryReply::Plain(DebugReply::Stopped { why, turn, steps }),
+        None => HistoryReply::RecordEnds { steps },
+    }
+}
+
+/// The same with the hart of the last step.
+fn told_reply(why: Option<Why>, last: u32, turn: u32, steps: u64) -> HistoryReply
+    ensures { result ≡ told_reply why last turn steps }
+{
+    match why {
+        Some(why) => HistoryReply::Plain(DebugReply::Told {
+            why,
+            last,
+            turn,
+            steps,
+        }),
+        None => HistoryReply::ToldRecordEnds { last, turn, steps },
     }
 }
 

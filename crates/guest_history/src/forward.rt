@@ -1,6 +1,8 @@
 //! Steps forward.
 
-ghost use Rattle.std.specs.Prelude.{◌≡◌, ◌≤◌, ◌+◌, true, false, Some, None, IfOk, OnOk};
+ghost use Rattle.std.specs.Prelude.{◌≡◌, ◌<◌, ◌≤◌, ◌+◌, true, false, Ok, Some, None, IfOk, IfSome, OnOk};
+ghost use Rattle.flat_machine.specs.Process.{is_live};
+ghost use Rattle.guest_history.specs.Going.{next_hart, turn_of, why_last, EndsTurn, GoesAlone, GoesByRecord, GoesTurn, HasGone};
 ghost use Rattle.guest_history.specs.Histories.{HasStepped, IsNext, IsSameRun, Stands};
 ghost use Rattle.run_paths.specs.declared.path.Whose.TheVariants as whose;
 ghost use Rattle.run_paths.specs.Paths.{hart_of};
@@ -33,13 +35,15 @@ pub(crate) enum Stepped {
 
 impl History {
     /// Whose turn it is: by the record, where it has more steps.
-    pub(crate) fn turn(&self) -> u32 {
+    pub(crate) fn turn(&self) -> u32
+        ensures { result ≡ turn_of self.now }
+    {
+        let turn = self.debugger.turn();
         if self.is_recorded {
-            if let Some(Whose::Hart(hart)) = whose_at(self.path.stretches.as_slice(), self.done) {
-                return hart;
-            }
+            next_hart(whose_at(self.path.stretches.as_slice(), self.done), turn)
+        } else {
+            turn
         }
-        self.debugger.turn()
     }
 
     /// Takes a step of a hart, where the record has it next, if there is a record.
@@ -108,11 +112,12 @@ impl History {
     }
 
     /// Takes steps until there is a reason to stop.
-    #[tactic(auto, using(crate::proofs::GoneOn::moves_some, crate::proofs::SameRuns::same_free, crate::proofs::SameRuns::same_path))]
+    #[tactic(auto, using(crate::proofs::GoneOn::moves_some, crate::proofs::SameRuns::same_free, crate::proofs::SameRuns::same_path, crate::proofs::Gone::by_turns))]
     pub(crate) fn go(&mut self, alloc: Global, limit: u64) -> Result<Stop, RunFault>
         requires stands { Stands self.old }
         ensures stands { OnOk result (Stands self.new) }
         ensures same { OnOk result (IsSameRun self.old self.new) }
+        ensures gone { IfOk result (λ stop. HasGone limit self.old stop self.new) }
     {
         if self.is_recorded {
             return self.go_by_record(alloc, limit);
@@ -128,7 +133,7 @@ impl History {
     }
 
     /// Takes steps of a hart until there is a reason to stop; `None` where it is not live.
-    #[tactic(auto, using(crate::proofs::GoneOn::moves_some, crate::proofs::GoneOn::stands_still, crate::proofs::SameRuns::same_free))]
+    #[tactic(auto, using(crate::proofs::GoneOn::moves_some, crate::proofs::GoneOn::stands_still, crate::proofs::SameRuns::same_free, crate::proofs::Gone::alone))]
     pub(crate) fn go_hart(
         &mut self,
         alloc: Global,
@@ -139,6 +144,10 @@ impl History {
         requires free { self.old.is_recorded ≡ false }
         ensures stands { OnOk result (Stands self.new) }
         ensures same { OnOk result (IsSameRun self.old self.new) }
+        ensures live { IfOk result (λ stop. IfSome stop (λ stop.
+            (is_live hart self.old.debugger.target ≡ true) × GoesAlone hart limit self.old stop self.new)) }
+        ensures waits { result ≡ Ok None → (is_live hart self.old.debugger.target ≡ false) ×
+            (self.new ≡ self.old) }
     {
         if !self.debugger.is_live(hart) {
             return Ok(None);
@@ -160,6 +169,7 @@ impl History {
         ensures program { OnOk result (self.new.program ≡ self.old.program) }
         ensures recorded { OnOk result (self.new.is_recorded ≡ self.old.is_recorded) }
         ensures path { OnOk result (self.new.path ≡ self.old.path) }
+        ensures gone { IfOk result (λ stop. GoesByRecord limit self.old stop self.new) }
     {
         let first = self.done;
         let path = self.path.stretches.as_slice();
@@ -191,7 +201,9 @@ impl History {
     }
 
     /// Why a run stops that has come to the end of the record, with so many steps left that were allowed.
-    fn why_at_end(&self, left: u64) -> Option<Why> {
+    fn why_at_end(&self, left: u64) -> Option<Why>
+        ensures { result ≡ why_last self.now.debugger.target left }
+    {
         if self.debugger.end().is_some() {
             return Some(Why::Ended);
         }
@@ -199,7 +211,7 @@ impl History {
     }
 
     /// Takes steps of a turn, up to so many, until there is a reason to stop.
-    #[tactic(auto, using(crate::proofs::GoneOn::stands_turn))]
+    #[tactic(auto, using(crate::proofs::GoneOn::stands_turn, crate::proofs::Gone::turn_gone))]
     fn go_turn(&mut self, stretch: Stretch, limit: u64) -> Result<(Why, u64), RunFault>
         requires stands { Stands self.old }
         requires next { IsNext self.old.path self.old.done stretch }
@@ -210,6 +222,8 @@ impl History {
         ensures recorded { self.new.is_recorded ≡ self.old.is_recorded }
         ensures within { IfOk result (λ stop. stop.1 ≤ limit) }
         ensures few { IfOk result (λ stop. stop.1 ≤ stretch.count) }
+        ensures points { OnOk result (self.new.debugger.points ≡ self.old.debugger.points) }
+        ensures gone { IfOk result (λ stop. GoesTurn stretch limit self.old stop.0 stop.1 self.new) }
     {
         let hart = match stretch.whose {
             Whose::Hart(hart) => hart,
@@ -220,6 +234,16 @@ impl History {
         let (why, steps) = go_alone(&mut self.debugger, hart, most)?;
         self.done += steps;
         Ok((why, steps))
+    }
+}
+
+/// The hart that a record has next, else the one whose turn it is.
+fn next_hart(next: Option<Whose>, turn: u32) -> u32
+    ensures { result ≡ next_hart next turn }
+{
+    match next {
+        Some(Whose::Hart(hart)) => hart,
+        Some(Whose::ByTurns) | None => turn,
     }
 }
 
@@ -244,7 +268,8 @@ fn hart_of_turn(stretch: Stretch) -> u32 {
 
 /// Whether a run by a record stops, of which a turn came to this: at a break stands the hart that has the next step.
 fn stops(why: Why, steps: u64, stretch: Stretch) -> bool
-    ensures { result ≡ false → stretch.count ≤ steps }
+    ensures no { result ≡ false → EndsTurn why × (stretch.count ≤ steps) }
+    ensures yes { result ≡ true → EndsTurn why → steps < stretch.count }
 {
     match why {
         Why::Ended | Why::Watch(_) | Why::Absent => true,

@@ -11,6 +11,7 @@ mod moving;
 mod points;
 mod preparing;
 mod reply;
+mod turn;
 mod waiting;
 
 pub use conversation::converse_back;

@@ -1,5 +1,11 @@
 //! The lines that are written to a debugger that goes back.
 
+ghost use Rattle.std.specs.Prelude.{◌≡◌, IfOk, IfSome, IsErr, None, Ok};
+ghost use Rattle.text_lines.specs.Text.{words_of};
+ghost use Rattle.debug_session.specs.Conversation.{IsRemark};
+ghost use Rattle.guest_history.specs.HistoryLines.{AsksOf, WritesOne, WritesOwn};
+ghost use Rattle.guest_history.specs.declared.lines.HistoryLine.{HistoryLine};
+
 use debug_session::{DebugLine, Dialect, debug_line};
 use text_lines::{BadLine, next_word, word_number};
 
@@ -17,7 +23,13 @@ pub(crate) enum HistoryLine {
 }
 
 /// What a line asks for, if it is not skipped.
-pub(crate) fn history_line(line: &[u8]) -> Result<Option<HistoryLine>, BadLine> {
+#[tactic(auto, using(crate::proofs::OwnLines::asks_own, crate::proofs::OwnLines::asks_nothing))]
+pub(crate) fn history_line(line: &[u8]) -> Result<Option<HistoryLine>, BadLine>
+    ensures skipped { result ≡ Ok None → IsRemark line.now }
+    ensures asked { IfOk result (λ found. IfSome found (λ asked. AsksOf asked line.now)) }
+    ensures bad { IsErr result → (asked : HistoryLine) → ¬ AsksOf asked line.now }
+    ensures no_remark { IsErr result → ¬ IsRemark line.now }
+{
     if let Some(asked) = own_line(line) {
         return Ok(Some(asked));
     }
@@ -29,12 +41,19 @@ pub(crate) fn history_line(line: &[u8]) -> Result<Option<HistoryLine>, BadLine> 
 }
 
 /// What a line asks for that other debuggers don't have.
-fn own_line(line: &[u8]) -> Option<HistoryLine> {
+#[tactic(auto, using(crate::proofs::OwnLines::writes_one, crate::proofs::OwnLines::none_of_one, crate::proofs::OwnLines::none_of_none, crate::proofs::OwnLines::none_of_two, crate::proofs::OwnLines::none_of_many))]
+fn own_line(line: &[u8]) -> Option<HistoryLine>
+    ensures found { IfSome result (λ asked. WritesOwn asked (words_of line.now)) }
+    ensures none { result ≡ None → (asked : HistoryLine) → ¬ WritesOwn asked (words_of line.now) }
+{
     let (name, rest) = next_word(line)?;
     let Some((word, rest)) = next_word(rest) else {
         return own_word(name);
     };
-    if name != b"back".as_slice() || next_word(rest).is_some() {
+    if name != b"back".as_slice() {
+        return None;
+    }
+    if next_word(rest).is_some() {
         return None;
     }
     let count = word_number(word)?;
@@ -42,7 +61,10 @@ fn own_line(line: &[u8]) -> Option<HistoryLine> {
 }
 
 /// The same of one word.
-fn own_word(name: &[u8]) -> Option<HistoryLine> {
+fn own_word(name: &[u8]) -> Option<HistoryLine>
+    ensures found { IfSome result (λ asked. WritesOne asked name.now) }
+    ensures none { result ≡ None → (asked : HistoryLine) → ¬ WritesOne asked name.now }
+{
     if name == b"back".as_slice() {
         Some(HistoryLine::Back { count: 1 })
     } else if name == b"back-go".as_slice() {

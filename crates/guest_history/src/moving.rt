@@ -1,6 +1,9 @@
 //! Steps of a debugger on flat memory, told as steps of a path.
 
 ghost use Rattle.std.specs.Prelude.{◌≡◌, ◌≤◌, ◌∷◌, [], Some, IfOk, OnErr, OnOk};
+ghost use Rattle.debug_core.specs.Debugging.{first_moment, lone_moment, turn_left};
+ghost use Rattle.debug_core.specs.Stops.{last_hart, Stops};
+ghost use Rattle.guest_history.specs.Going.{lacks, shows};
 ghost use Rattle.guest_history.specs.Histories.{place_of};
 ghost use Rattle.run_paths.specs.Paths.{along, step_of};
 ghost use Rattle.run_paths.specs.declared.path.Whose.TheVariants as whose;
@@ -20,6 +23,11 @@ pub(crate) fn go_by_turns(
         stop.1 (place_of debugger.old) ≡ Some (place_of debugger.new)) }
     ensures within { IfOk result (λ stop. stop.1 ≤ limit) }
     ensures points { debugger.new.points ≡ debugger.old.points }
+    ensures stops { IfOk result (λ stop. Stops shows lacks debugger.old.target debugger.old.points
+        limit stop.0 stop.1 (first_moment debugger.old.target debugger.old.turn) debugger.new.turn
+        debugger.new.target) }
+    ensures last { IfOk result (λ stop. last_hart stop.1
+        (first_moment debugger.old.target debugger.old.turn) ≡ Some stop.2) }
 {
     match debugger.go(limit) {
         Ok(stop) => Ok(stop),
@@ -38,6 +46,10 @@ pub(crate) fn go_alone(
         stop.1 (place_of debugger.old) ≡ Some (place_of debugger.new)) }
     ensures within { IfOk result (λ stop. stop.1 ≤ limit) }
     ensures points { debugger.new.points ≡ debugger.old.points }
+    ensures stops { IfOk result (λ stop. Stops shows lacks debugger.old.target debugger.old.points
+        limit stop.0 stop.1 (lone_moment debugger.old.target hart) hart debugger.new.target) }
+    ensures turn { IfOk result (λ stop. debugger.new.turn ≡ turn_left stop.1 hart debugger.old.turn
+        debugger.new.target) }
 {
     match debugger.go_hart(hart, limit) {
         Ok(stop) => Ok(stop),

@@ -39,6 +39,11 @@ pub(crate) enum HistoryReply {
 }
 
 impl fmt::Display for HistoryReply {
+    ghost use Rattle.std.specs.Prelude.{Some};
+    ghost use Rattle.guest_history.specs.HistoryText.{history_text};
+
+    ghost output = { λ reply. Some (history_text reply) };
+
     fn fmt<W: fmt::Write>(&self, f: &mut fmt::Formatter<W>) -> fmt::Result {
         match self {
             HistoryReply::Plain(reply) => write!(f, "{reply}"),
@@ -63,11 +68,16 @@ impl fmt::Display for HistoryReply {
 struct MetPoint(Option<Why>);
 
 impl fmt::Display for MetPoint {
+    ghost use Rattle.std.specs.Prelude.{Some};
+    ghost use Rattle.guest_history.specs.HistoryText.{met_text};
+
+    ghost output = { λ met. Some (met_text met.0) };
+
     fn fmt<W: fmt::Write>(&self, f: &mut fmt::Formatter<W>) -> fmt::Result {
         match self.0 {
             Some(Why::Watch(number)) => write!(f, "watch {number}"),
             Some(Why::Break(number)) => write!(f, "break {number}"),
-            _ => f.write_str("begin"),
+            None | Some(Why::Ended | Why::Gone | Why::Limit | Why::Absent) => f.write_str("begin"),
         }
     }
 }

@@ -20,6 +20,6 @@ pub use explore_command::run_explore;
 pub use fault::RecordsFault;
 pub use laws::{counts_add_up, rows_come_from_runs};
 pub use program::explore_program;
-pub use replay_command::run_replay;
+pub use replay_command::{read_recorded_image, read_told, run_replay};
 pub use request::{By, ExploreRequest, ReplayRequest};
 pub use row::Row;

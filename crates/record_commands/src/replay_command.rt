@@ -69,7 +69,10 @@ fn write_output<O: Write>(output: &[u8], out: &mut O) -> io::Result<()>
 }
 
 /// The record that a file holds.
-fn read_told<'a, R: Folder + AllocGlobal>(rt: &R, name: &'a str) -> Result<Record, RecordsFault<'a>>
+pub fn read_told<'a, R: Folder + AllocGlobal>(
+    rt: &R,
+    name: &'a str,
+) -> Result<Record, RecordsFault<'a>>
     ensures told { IfOk result (λ told. GivesRecord R.gives name.now (value_of told)) }
     ensures refused { IfErr result (IsNoRecord R.gives R.withholds name.now) }
 {
@@ -94,7 +97,7 @@ fn replayed<'a, R: Folder + AllocGlobal, I: Read + Drop>(
     ensures refused { IfErr result (RefusesProcess R.gives R.withholds request.entry.record.now
         request.entry.image.now (I.remaining input) (value_of told.now)) }
 {
-    let image = read_same_image(rt, request.image, told)?;
+    let image = read_recorded_image(rt, request.image, told)?;
     let input = read_same_input(rt.alloc(), input, told)?;
     let mut process = FlatProcess::new(rt.alloc(), &image, input)?;
     match replay(rt.alloc(), &mut process, told) {
@@ -105,7 +108,7 @@ fn replayed<'a, R: Folder + AllocGlobal, I: Read + Drop>(
 }
 
 /// The image that a file holds, if it is the file of a record's.
-fn read_same_image<'a, R: Folder + AllocGlobal>(
+pub fn read_recorded_image<'a, R: Folder + AllocGlobal>(
     rt: &R,
     name: &'a str,
     told: &Record,

@@ -17,7 +17,7 @@ use Rattle.machine_sides.specs.FlatLines.{StandsForRun}
 use Rattle.machine_sides.specs.Reporting.{told}
 use Rattle.machine_sides.specs.declared.report.ProcessReport.{ProcessReport}
 use Rattle.run_records.specs.Prints.{print_of}
-use Rattle.run_records.specs.Records.{RecordValue}
+use Rattle.run_records.specs.Records.{RecordValue, record_text}
 use Rattle.run_records.specs.Replaying.{Replays}
 use Rattle.run_recorder.specs.declared.request.Driver.{Driver}
 use Rattle.run_recorder.specs.declared.request.Driver.TheVariants.{Serial, Workers}
@@ -52,8 +52,9 @@ pub record ReplaysTo (start : Start) (report : ProcessReport) (record_told : Rec
   pub output : flat.environment.output ≡ report.output.items
 
 -- The image file and the input were read whole; a machine ran that program as it was asked for, which told what a flat run of these turns comes
--- to; what the program wrote is written, and the status is that of its ending, with which the record was made.
-pub record RunsRecorded (gives : List ℕ → List ℕ → Type 0) (request : RecordRequest) (remaining old new : Option (List ℕ)) (status : ℕ) : Type 0 where
+-- to; what the program wrote is written, the file was made of the record, and the status is that of its ending. `takes` tells, of a name, of which
+-- bytes a file of it was made.
+pub record RunsRecorded (gives takes : List ℕ → List ℕ → Type 0) (request : RecordRequest) (remaining old new : Option (List ℕ)) (status : ℕ) : Type 0 where
   pub file : List ℕ
   pub image : ImageContent
   pub input : List ℕ
@@ -66,4 +67,5 @@ pub record RunsRecorded (gives : List ℕ → List ℕ → Type 0) (request : Re
   pub flat : StandsForRun (start_of image input) (told report)
   pub tells : TellsReport file input report told_as
   pub written : Appends old new report.output.items
+  pub saved : takes request.record.now (record_text told_as)
   pub status_is : status ≡ guest_status told_as.closing.end

@@ -1,9 +1,10 @@
 //! The command.
 
-ghost use Rattle.std.specs.Prelude.{◌≡◌, ◌<◌, IfOk};
+ghost use Rattle.std.specs.Prelude.{◌≡◌, ◌<◌, IfOk, OnOk};
 ghost use Rattle.elf_image.specs.Start.{start_of};
 ghost use Rattle.machine_sides.specs.FlatLines.{StandsForRun};
 ghost use Rattle.machine_sides.specs.Reporting.{told};
+ghost use Rattle.run_records.specs.Records.{record_text, value_of};
 ghost use Rattle.run_recorder.specs.Recorded.{RanBy, RunsRecorded};
 ghost use Rattle.run_recorder.specs.Requests.{IsInRange};
 
@@ -38,7 +39,7 @@ where
     O: Write,
     E: Write,
     requires in_range { IsInRange request.now }
-    ensures { IfOk result (RunsRecorded R.gives request.now (I.remaining input)
+    ensures { IfOk result (RunsRecorded R.gives R.takes request.now (I.remaining input)
         (O.contents out.old) (O.contents out.new)) }
 {
     let alloc = rt.alloc();
@@ -92,7 +93,9 @@ fn save<'a, R: WholeFiles + AllocGlobal>(
     rt: &R,
     name: &'a str,
     told: &Record,
-) -> Result<usize, RecorderFault<'a>> {
+) -> Result<usize, RecorderFault<'a>>
+    ensures { OnOk result (R.takes name.now (record_text (value_of told.now))) }
+{
     let mut text = Vec::new(rt.alloc());
     if write_record(told, &mut text).is_err() {
         return Err(RecorderFault::NotWritten(name));

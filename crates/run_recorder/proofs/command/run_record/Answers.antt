@@ -25,5 +25,6 @@ returns g c =
           (c.take_fingerprint-image_print.ensures ∙ ap print_of c.as_slice.ensures.value)
           (c.take_fingerprint-input_print.ensures ∙ ap print_of c.as_slice-2.ensures.value);
       written = Appends-kept _ _ _ _ output c.flush.ensures.bytes;
+      saved = c.in_ok-bytes.ensures;
       status_is = c.status_of.ensures;
     }

@@ -1,5 +1,5 @@
 -- A row of a table that is written of a page is read as that page: proofs.
-use Rattle.std.specs.Prelude.{◌≡◌, ℕ, suc, ◌+◌, ◌-◌, ◌^◌, ◌<◌, ◌≤◌, ◌==◌, ◌&&◌, Bool, true, false, nat_eq, nat_lt, List, [], ◌∷◌, ◌++◌, length, reverse, slice_get, codes, Option, Some, refl}
+use Rattle.std.specs.Prelude.{◌≡◌, ℕ, ◌-◌, ◌^◌, ◌<◌, ◌==◌, ◌&&◌, Bool, true, false, nat_eq, nat_lt, List, [], ◌∷◌, ◌++◌, length, reverse, slice_get, codes, Some, refl}
 use Rattle.std.specs.Option.{option_map, option_and_then}
 use Rattle.std.specs.List.{prefix_len, starts_with, ends_with}
 use Rattle.std.specs.Char.{digit_value, is_ascii_whitespace}
@@ -15,7 +15,7 @@ use Rattle.trace_lines.specs.Ids.{id_in, written_below}
 use Rattle.trace_lines.proofs.IdLaws.{number_told}
 use Rattle.trace_lines.specs.PageIds.{id_of, page_of_id}
 use Rattle.trace_lines.specs.PageLines.{IsPage}
-use Rattle.trace_lines.specs.Columns.{is_id_name, separator_from, fields_from, fields_of, trimmed, is_quoted, unquoted, field_text, place_of_ids, column_of_ids, column_page, column_text, is_first_word}
+use Rattle.trace_lines.specs.Columns.{is_id_name, separator_from, fields_from, fields_of, trimmed, unquoted, field_text, place_of_ids, column_of_ids, column_page, column_text, is_first_word}
 use Rattle.trace_lines.specs.Lines.{column_said, page_or, to_page, with_ids, word_said}
 use Rattle.trace_lines.specs.declared.format.IdKind.TheVariants.{Numbers}
 use Rattle.trace_lines.proofs.ColumnLaws.{take_whole}
@@ -37,7 +37,7 @@ field_before (c ∷ text) rest h = rw (no_comma c h.0) (rw (no_quote c h.0) (ap 
 
 -- ---- a field of digits says what it has
 
-no_space : (c : ℕ) → digit_value c < 10 → is_ascii_whitespace c ≡ false
+pub no_space : (c : ℕ) → digit_value c < 10 → is_ascii_whitespace c ≡ false
 no_space c h =
     let tab : (c == 9) ≡ false = other_byte 9 c (c == 9) refl (λ k. absurd (omega (arith, k))) h in
     let feed : (c == 10) ≡ false = other_byte 10 c (c == 10) refl (λ k. absurd (omega (arith, k))) h in
@@ -46,7 +46,7 @@ no_space c h =
     let space : (c == 32) ≡ false = other_byte 32 c (c == 32) refl (λ k. absurd (omega (arith, k))) h in
     grind arith
 
-none_first : (ends : ℕ → Bool) (text : List ℕ) → Lacks ends text → prefix_len ends text ≡ 0
+pub none_first : (ends : ℕ → Bool) (text : List ℕ) → Lacks ends text → prefix_len ends text ≡ 0
 none_first ends [] h = refl
 none_first ends (c ∷ text) h = rw h.0 refl
 

@@ -54,7 +54,7 @@ module _ (format : TraceFormat) (count next : ℕ) (words : List (List ℕ)) (co
 
   module _ (line read : TraceLine) (behind : TraceFormat) (after : List (List ℕ)) (says : said format next piece ≡ Some line)
       (reads : read ≡ resolved words (word_of format next piece) line) (keeps : after ≡ words_behind words (word_of format next piece) line) (is : behind ≡ format_behind (Some line) format) where
-    line_step : (pieces : List (List ℕ)) → lines format count words (piece ∷ pieces) ≡ line_given read (lines behind next after pieces)
+    pub line_step : (pieces : List (List ℕ)) → lines format count words (piece ∷ pieces) ≡ line_given read (lines behind next after pieces)
     line_step pieces =
         stepped pieces
         ∙ ap (λ (o : Option TraceLine). step next o pieces) says

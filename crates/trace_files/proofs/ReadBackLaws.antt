@@ -34,7 +34,7 @@ pub lacks_digits : (ends : ℕ → Bool) → ((c : ℕ) → digit_value c < 10 �
 lacks_digits ends none [] h = tt
 lacks_digits ends none (c ∷ text) h = (none c h.0, lacks_digits ends none text h.1)
 
-part_before : (ends : ℕ → Bool) (text : List ℕ) (c : ℕ) (rest : List ℕ) → Lacks ends text → ends c ≡ true → parts_at ends (text ++ c ∷ rest) ≡ text ∷ parts_at ends rest
+pub part_before : (ends : ℕ → Bool) (text : List ℕ) (c : ℕ) (rest : List ℕ) → Lacks ends text → ends c ≡ true → parts_at ends (text ++ c ∷ rest) ≡ text ∷ parts_at ends rest
 part_before ends [] c rest h here = rw here refl
 part_before ends (d ∷ text) c rest h here = rw h.0 (ap (ahead d) (part_before ends text c rest h.1 here))
 
@@ -61,7 +61,7 @@ no_blank c h =
 no_bar : (c : ℕ) → digit_value c < 10 → is_bar c ≡ false
 no_bar c h = other_byte 47 c (c == 47) refl (λ k. absurd (omega (arith, k))) h
 
-no_line_end : (c : ℕ) → digit_value c < 10 → is_line_end c ≡ false
+pub no_line_end : (c : ℕ) → digit_value c < 10 → is_line_end c ≡ false
 no_line_end c h = other_byte 10 c (c == 10) refl (λ k. absurd (omega (arith, k))) h
 
 x_is_no_digit : (d : ℕ) (b : Bool) → (120 == d) ≡ b → digit_value d < 10 → b ≡ false
@@ -92,7 +92,7 @@ decimal_read n small =
 digits_in : (n : ℕ) → n < 4294967296 → AllDigits 10 (decimal n)
 digits_in n small = (decimal_is_IsNumeral n (omega (arith, small))).0.1
 
-key_lacks : (ends : ℕ → Bool) → ((c : ℕ) → digit_value c < 10 → ends c ≡ false) → ends 47 ≡ false → (page : Key) → IsPage page → Lacks ends (key_text page)
+pub key_lacks : (ends : ℕ → Bool) → ((c : ℕ) → digit_value c < 10 → ends c ≡ false) → ends 47 ≡ false → (page : Key) → IsPage page → Lacks ends (key_text page)
 key_lacks ends none bar page h =
     lacks_both ends (decimal page.process ++ codes "/") (decimal page.vpn)
     (lacks_both ends (decimal page.process) (codes "/") (lacks_digits ends none (decimal page.process) (digits_in page.process h.process)) (bar, tt))
@@ -136,7 +136,7 @@ line_lacks ends none bar space mark page false h = lacks_both ends (key_text pag
 decimal_some : (n : ℕ) → n < 4294967296 → 0 < length (decimal n)
 decimal_some n small = (decimal_is_IsNumeral n (omega (arith, small))).0.0
 
-key_some : (page : Key) → IsPage page → 0 < length (key_text page)
+pub key_some : (page : Key) → IsPage page → 0 < length (key_text page)
 key_some page h = longer (decimal page.process) (codes "/") (decimal page.vpn) (decimal_some page.process h.process)
   where
     longer : (a b c : List ℕ) → 0 < length a → 0 < length (a ++ b ++ c)
@@ -153,7 +153,7 @@ one_word (c ∷ word) h some = rw (part_whole is_blank c word h) (kept_word (c �
 word_and_mark : (word : List ℕ) → Lacks is_blank word → 0 < length word → words_of (word ++ codes " w") ≡ word ∷ codes "w" ∷ []
 word_and_mark word h some = rw (part_before is_blank word 32 (codes "w") h refl) (kept_word word (codes "w" ∷ []) some)
 
-without_more : (text : List ℕ) → text ++ [] ≡ text
+pub without_more : (text : List ℕ) → text ++ [] ≡ text
 without_more [] = refl
 without_more (c ∷ text) = ap (λ (l : List ℕ). c ∷ l) (without_more text)
 

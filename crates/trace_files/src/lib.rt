@@ -11,6 +11,7 @@ mod trace_file;
 mod whole_trace;
 mod word_list;
 mod writing;
+mod written_pages;
 
 pub use fault::TraceFault;
 pub use laws::{

@@ -1,13 +1,28 @@
 //! Traces cut into lines or records, one after another.
 
-ghost use Rattle.std.specs.Prelude.{◌≡◌, [], Ok, IfErr, IfOk, OnOk};
+ghost use Rattle.std.specs.Prelude.{
+  ◌≡◌,
+  ◌+◌,
+  ◌-◌,
+  ◌^◌,
+  ◌≤◌,
+  [],
+  length,
+  min,
+  Ok,
+  IfErr,
+  IfOk,
+  OnOk,
+};
 ghost use Rattle.text_lines.specs.Text.{lines_of};
 ghost use Rattle.trace_files.specs.References.{counted, pieces_of, records_of};
 ghost use Rattle.trace_files.specs.ReferenceAnswers.{IsOutside, Names, TakesPiece};
+ghost use Rattle.trace_files.specs.WrittenPages.{TakesPages};
 
 use crate::fault::TraceFault;
-use crate::reading::{read_line, read_record};
+use crate::reading::{read_line, read_record, take_pages};
 use crate::word_list::WordList;
+use clock_policy::Key;
 use std::alloc::Global;
 use std::io;
 use std::io::{BufRead, ErrorKind};
@@ -57,6 +72,35 @@ impl<'a, B: BufRead + Drop> Pieces<'a, B> {
         match format {
             TraceFormat::OracleGeneral => self.read_record(),
             _ => self.read_line(),
+        }
+    }
+
+    /// Adds the pages of the lines at hand to a block, which then has so many at most, up to the first that is not as `write_line` writes
+    /// a page.
+    pub(crate) fn take_pages(
+        &mut self,
+        block: &mut Vec<Key>,
+        most: usize,
+    ) -> Result<(), TraceFault<'a>>
+        requires { length block.old.items ≤ most }
+        ensures few { length block.new.items ≤ most }
+        ensures taken { OnOk result (TakesPages (B.remaining self.old.file)
+            (B.remaining self.new.file) block.old.items block.new.items) }
+        ensures counted { OnOk result (self.new.count ≡ min (self.old.count + (length
+            block.new.items - length block.old.items)) (2 ^ 64 - 1)) }
+        ensures fault { IfErr result IsOutside }
+        ensures named { IfErr result (Names self.old.name.now) }
+        ensures kept { self.new.name ≡ self.old.name }
+        ensures words { self.new.words ≡ self.old.words }
+    {
+        let had = block.len();
+        match take_pages(&mut self.file, block, most) {
+            Ok(()) => {
+                let lines = block.len() - had;
+                self.count = self.count.saturating_add(lines as u64);
+                Ok(())
+            }
+            Err(error) => Err(fault_of(&error, self.name)),
         }
     }
 

@@ -1,12 +1,15 @@
 //! The next line or record of a reader.
 
-ghost use Rattle.std.specs.Prelude.{◌≡◌, ◌<◌, ◌≤◌, ◌++◌, List, ℕ, IfOk, length, take};
+ghost use Rattle.std.specs.Prelude.{◌≡◌, ◌<◌, ◌≤◌, ◌++◌, List, ℕ, IfOk, OnOk, length, take};
 ghost use Rattle.std.specs.Io.BufRead.{strip_last};
 ghost use Rattle.std.specs.Io.KnownBytes.{Consumes, IsAtEnd};
 ghost use Rattle.text_lines.specs.Text.{lines_of};
 ghost use Rattle.trace_files.specs.References.{records_of};
 ghost use Rattle.trace_files.specs.ReferenceAnswers.{TakesPiece};
+ghost use Rattle.trace_files.specs.WrittenPages.{TakesPages};
 
+use crate::written_pages::add_pages;
+use clock_policy::Key;
 use std::io;
 use std::io::{BufRead, ErrorKind};
 
@@ -89,4 +92,32 @@ fn read_some<B: BufRead>(file: &mut B, part: &mut [u8]) -> io::Result<usize>
     }
     // nothing says that a reader ends: std gives up after as many turns
     Err(io::Error::from(ErrorKind::Interrupted))
+}
+
+/// Adds the pages of the next lines to a block, which then has so many at most: of whole lines that the reader has at hand, up to the first
+/// that is not as `write_line` writes a page.
+pub(crate) fn take_pages<B: BufRead>(
+    file: &mut B,
+    block: &mut Vec<Key>,
+    most: usize,
+) -> io::Result<()>
+    requires { length block.old.items ≤ most }
+    ensures few { length block.new.items ≤ most }
+    ensures taken { OnOk result (TakesPages (B.remaining file.old) (B.remaining file.new)
+        block.old.items block.new.items) }
+{
+    let text = match file.fill_buf() {
+        Ok(text) => text,
+        Err(error) => {
+            return if error.kind() == ErrorKind::Interrupted {
+                Ok(())
+            } else {
+                Err(error)
+            };
+        }
+    };
+    let rest = add_pages(text, block, most)?;
+    let size = text.len() - rest.len();
+    file.consume(size);
+    Ok(())
 }

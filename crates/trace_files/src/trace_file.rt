@@ -30,6 +30,7 @@ ghost use Rattle.trace_files.specs.ReferenceAnswers.{
   name_of,
   to_come,
 };
+ghost use Rattle.trace_files.specs.WrittenPages.{TellsOn};
 
 use crate::fault::TraceFault;
 use crate::next_reference::{next_due, next_joined};
@@ -76,7 +77,7 @@ impl<'a, B: BufRead + Drop> TraceFile<'a, B> {
     }
 
     /// Fills a block with the next pages, so many at most. At the end of the trace it is empty.
-    #[tactic(auto, using(crate::proofs::ManyTold::no_pages, crate::proofs::ManyTold::pages_on, crate::proofs::ManyTold::pages_over, crate::proofs::ManyTold::none_later, crate::proofs::ManyTold::ends_by))]
+    #[tactic(auto, using(crate::proofs::ManyTold::no_pages, crate::proofs::AtHandTold::ends_at_hand, crate::proofs::AtHandTold::ends_behind, crate::proofs::AtHandTold::over_behind, crate::proofs::AtHandTold::one_behind))]
     pub fn fill(&mut self, block: &mut Vec<Key>, most: usize) -> Result<(), TraceFault<'a>>
         ensures few { length block.new.items ≤ most }
         ensures told { OnOk result (TellsPages block.new.items (to_come B.remaining self.old)
@@ -90,6 +91,10 @@ impl<'a, B: BufRead + Drop> TraceFile<'a, B> {
     {
         block.clear();
         'references: for _ in 0..most {
+            self.fill_at_hand(block, most)?;
+            if block.len() >= most {
+                return Ok(());
+            }
             let Some(reference) = self.next()? else {
                 return Ok(());
             };
@@ -98,6 +103,32 @@ impl<'a, B: BufRead + Drop> TraceFile<'a, B> {
             }
         }
         Ok(())
+    }
+
+    /// Adds the pages of the lines at hand to a block, which then has so many at most, up to the first that is not as `write_line` writes a
+    /// page. A first line is never among them.
+    #[tactic(auto, using(crate::proofs::AtHandTold::same_told, crate::proofs::AtHandTold::outside_ends))]
+    fn fill_at_hand(&mut self, block: &mut Vec<Key>, most: usize) -> Result<(), TraceFault<'a>>
+        requires { length block.old.items ≤ most }
+        ensures few { length block.new.items ≤ most }
+        ensures more { OnOk result (length block.old.items ≤ length block.new.items) }
+        ensures told { OnOk result (TellsOn (to_come B.remaining self.old)
+            (to_come B.remaining self.new) block.old.items block.new.items) }
+        ensures fault { IfErr result (λ fault. IfSome (to_come B.remaining self.old) (EndsBy
+            fault)) }
+        ensures named { IfErr result (Names (name_of self.old).now) }
+        ensures kept { name_of self.new ≡ name_of self.old }
+    {
+        if self.pieces.count == 0 {
+            return Ok(());
+        }
+        if self.second.is_some() {
+            return Ok(());
+        }
+        match self.format {
+            TraceFormat::Text => self.pieces.take_pages(block, most),
+            _ => Ok(()),
+        }
     }
 
     /// The next reference, or `None` at the end. Those of tables and records never say that they write.

@@ -7,6 +7,7 @@ pub mod SettlingLaws
 pub mod PlainRunLaws
 pub mod PagesLaws
 pub mod Runs
+pub mod TurnBefore
 pub mod Turning
 pub mod PlainSteps
 pub mod PlainCode

@@ -1,6 +1,6 @@
 -- What a step is, by its effect, and what it keeps.
-use Rattle.std.proofs.Common.{◌≡◌, ◌&&◌, ◌+◌, ◌<◌, ◌≤◌, ℕ, zero, suc, Bool, true, false, List, [], ◌∷◌, ◌++◌, length, slice_set, slice_index_or, Option, Some, None, is_none, is_some, option_map, ap, ◌∙◌, refl, sym, subst, cond, arith, length-set, true≢false}
-use Rattle.std.proofs.lemmas.Option.{slice_get-get_or}
+use Rattle.std.proofs.Common.{◌≡◌, ◌&&◌, ◌+◌, ◌<◌, ◌≤◌, ℕ, zero, suc, Bool, true, false, List, [], ◌∷◌, ◌++◌, length, slice_set, slice_index_or, Option, Some, None, IsSome, is_none, is_some, option_map, unwrap_or, ap, ◌∙◌, refl, sym, subst, cond, arith, length-set, true≢false}
+use Rattle.std.proofs.lemmas.Option.{slice_get-get_or, none-some}
 use Rattle.std.proofs.lemmas.List.{length_push}
 use Rattle.rv_exec.specs.Registers.{Registers}
 use Rattle.env_calls.specs.Environment.{any_live}
@@ -110,3 +110,29 @@ taken hart process now registers e whole same may_step_when_live are is =
       step = ap (flat_step hart) (sym same) ∙ step_is hart process registers e here there is;
       whole = whole_after hart process registers e whole (subst (MarksAfter hart process.environment.live) is (marks_after hart registers process.environment process.memory));
     }
+
+-- ---- a step that ends the process
+
+lives_after : (hart : ℕ) (process : Process) (registers : Registers) (e : Effect) → process.ending ≡ None → is_live hart process ≡ true → MarksAfter hart process.environment.live e
+    → IsSome (after hart process registers e).ending → is_live hart (after hart process registers e) ≡ true
+lives_after hart process registers (Runs regs env memory) goes lives marks ended = absurd (true≢false (sym ended ∙ ap is_some goes))
+lives_after hart process registers (Yields regs env memory) goes lives marks ended = absurd (true≢false (sym ended ∙ ap is_some goes))
+lives_after hart process registers (Spawns first regs env memory) goes lives marks ended = absurd (true≢false (sym ended ∙ ap is_some goes))
+lives_after hart process registers (Finishes regs env memory) goes lives marks ended = absurd (true≢false (sym ended ∙ ap is_some goes))
+lives_after hart process registers (Exits status regs env memory) goes lives marks ended = ap (λ live. slice_index_or live hart false) marks ∙ lives
+lives_after hart process registers (Traps cause value) goes lives marks ended = lives
+
+ends_alive : (hart : ℕ) (process left : Process) (may : Bool) (found : Option Registers) → may_step hart process ≡ may → cond may (option_map (stepped hart process) found) None ≡ Some left
+    → IsSome left.ending → is_live hart left ≡ true
+ends_alive hart process left false found can e ended = absurd (none-some left e)
+ends_alive hart process left true None can e ended = absurd (none-some left e)
+ends_alive hart process left true (Some registers) can e ended =
+    let is : after hart process registers (effect hart registers process.environment process.memory) ≡ left = ap (λ o. unwrap_or o (stepped hart process registers)) e in
+    subst (λ (p : Process). is_live hart p ≡ true) is
+    (lives_after hart process registers (effect hart registers process.environment process.memory) (has_no_ending hart process can) (is_live_in hart process can)
+    (marks_after hart registers process.environment process.memory) (subst (λ (p : Process). IsSome p.ending) (sym is) ended))
+
+-- the hart that took it is still live
+pub ended_lives : (hart : ℕ) (process left : Process) → flat_step hart process ≡ Some left → IsSome left.ending → is_live hart left ≡ true
+unfolding flat_step
+ended_lives hart process left e ended = ends_alive hart process left (may_step hart process) (hart_registers hart process) refl e ended

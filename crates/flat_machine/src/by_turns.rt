@@ -1,12 +1,13 @@
 //! Runs a process on flat memory by turns of its live harts, up to a number of steps.
 
-ghost use Rattle.std.specs.Prelude.{◌≡◌, ◌<◌, ◌≤◌, ℕ, Some, true, IsSome, IfOk, IfErr, OnErr};
+ghost use Rattle.std.specs.Prelude.{◌≡◌, ◌<◌, ◌≤◌, ℕ, Some, true, IfSome, IsSome, IfOk, IfErr, OnErr};
 ghost use Rattle.env_calls.specs.Environment.{next_live};
 ghost use Rattle.flat_machine.specs.Process.{is_live, may_step};
 ghost use Rattle.flat_machine.specs.ByTurns.{by_turns, first_turn, turn_after};
 ghost use Rattle.flat_machine.specs.Refusals.{WantsAt};
 
 use crate::process::FlatProcess;
+use machine_limits::MOST_HARTS;
 use std::alloc::AllocError;
 use thiserror::Error;
 
@@ -125,6 +126,24 @@ impl FlatProcess {
         } else {
             self.turn_after(0)
         }
+    }
+
+    /// The live hart after whose step it is a hart's turn; there is one at most. Where a run by turns has ended, its last step was
+    /// that hart's.
+    pub fn turn_before(&self, turn: u32) -> Option<u32>
+        ensures found { IfSome result (λ hart. (is_live hart self.now ≡ true) ×
+            (turn_after hart self.now ≡ turn)) }
+        ensures only { (hart : ℕ) → is_live hart self.now ≡ true →
+            turn_after hart self.now ≡ turn → result ≡ Some hart }
+    {
+        // For the proof only: a read shows its invariant.
+        let _ = &self.harts;
+        'harts: for hart in 0..MOST_HARTS as u32 {
+            if self.is_live(hart) && self.turn_after(hart) == turn {
+                return Some(hart);
+            }
+        }
+        None
     }
 
     /// Whose turn it is after a hart's.

@@ -1,5 +1,5 @@
 -- One hart that runs alone.
-use Rattle.std.proofs.Common.{◌≡◌, ℕ, zero, suc, List, Option, Some, Ok, Err, IfOk, OnErr, Result, inl, inr, sym, ap, ◌∙◌, refl}
+use Rattle.std.proofs.Common.{◌≡◌, ℕ, zero, suc, List, Option, Some, Ok, Err, IfOk, OnErr, Result, inl, inr, ap, ◌∙◌}
 use Rattle.flat_machine.specs.Process.{Process, is_live}
 use Rattle.debug_core.specs.Limits.{Limit}
 use Rattle.debug_core.specs.Stops.{moment_after, Moment, Stops, StopsFor, WantsAfter}

@@ -1,5 +1,6 @@
 pub mod ReadingLaws
 pub mod Alone
+pub mod AtOnce
 pub mod Passing
 pub mod Points
 pub mod Room

@@ -1,5 +1,5 @@
 -- Steps that pass with no reason to stop.
-use Rattle.std.proofs.Common.{◌≡◌, ◌≢◌, ℕ, zero, suc, ◌+◌, ◌≤◌, List, [], ◌∷◌, length, replicate, take, slice_index_or, Option, Some, None, IfSome, option_and_then, option_map, slice_index, nat_cmp, inl, inr, subst, sym, ap, ◌∙◌, refl, below_more, arith}
+use Rattle.std.proofs.Common.{◌≡◌, ◌≢◌, ℕ, zero, suc, ◌+◌, ◌≤◌, ◌⊎◌, List, [], ◌∷◌, length, replicate, take, slice_index_or, Option, Some, None, IfSome, option_and_then, option_map, unwrap_or, slice_index, nat_cmp, inl, inr, subst, sym, ap, ◌∙◌, refl, below_more, arith}
 use Rattle.std.specs.Prelude.{◌↔◌}
 use Rattle.std.specs.FinMap as map
 use Rattle.std.proofs.lemmas.List.{get_or-replicate}
@@ -10,7 +10,7 @@ use Rattle.page_memory.specs.Words.{page_number, page_offset}
 use Rattle.debug_core.specs.Points.{bytes_from, point_at, IsPoint, ArePoints}
 use Rattle.debug_core.specs.Seen.{AreSeen, IsSeen}
 use Rattle.debug_core.specs.Limits.{Limit}
-use Rattle.debug_core.specs.Stops.{Moment, last_hart, moment_after, next_moment, reason, Advances, IsFullAt, Passes, StopsFor}
+use Rattle.debug_core.specs.Stops.{Moment, last_hart, moment_after, next_moment, reason, Advances, IsFullAt, Passes, PassesTo, StopsFor}
 use Rattle.flat_machine.specs.Process.{Process}
 use Rattle.debug_core.specs.declared.point.Why.{Why}
 use Rattle.debug_core.specs.declared.point.Why.TheVariants.{Ended, Watch as Watched, Gone, Break as Broke, Limit as Limited, Absent}
@@ -20,6 +20,10 @@ use Rattle.debug_core.specs.declared.point.Point.TheVariants.{Break, Watch}
 pub passes_none : (limits : Limit → Type 0) (points : List (Option Point)) (limit : ℕ) (first : Moment) → Passes limits points limit 0 first first
 unfolding moment_after
 passes_none limits points limit first = record { reached = refl; within = omega arith; before = λ count h. absurd (omega (arith, h)) }
+
+-- no step leads to the moment itself
+pub passes_to_none : (limits : Limit → Type 0) (points : List (Option Point)) (limit : ℕ) (first : Moment) → PassesTo limits points limit 0 first first.turn first.process
+passes_to_none limits points limit first = record { was = first.was; passes = passes_none limits points limit first }
 
 -- one step more
 pub passes_more : (limits : Limit → Type 0) (points : List (Option Point)) (limit count : ℕ) (first now next : Moment) → Passes limits points limit count first now → reason points limit count now ≡ None
@@ -92,3 +96,15 @@ seen_as_nothing (Some (Watch address length)) is = let few = is.1.0 in nothing_f
 pub seen_nothing : (points : List (Option Point)) → length points ≤ 32 → ArePoints points → AreSeen points (replicate 32 (replicate 16 None)) (unreserved map.empty)
 seen_nothing points few are number h =
     subst (λ window. IsSeen (slice_index_or points number None) window (unreserved map.empty)) (sym (get_or-replicate 32 number (replicate 16 None) [] (omega (arith, few, h)))) (seen_as_nothing (point_at points number) (are number))
+
+-- the watches are as before the first step, where no step was taken, or there are none
+pub seen_unlooked : (limits : Limit → Type 0) (points : List (Option Point)) (limit count : ℕ) (first now : Moment) → length points ≤ 32 → ArePoints points → first.was ≡ unreserved map.empty
+    → Passes limits points limit count first now → (points ≡ []) ⊎ (count ≡ 0) → AreSeen points (replicate 32 (replicate 16 None)) now.was
+unfolding moment_after
+seen_unlooked limits points limit count first now few are none passes unseen =
+    elim unseen [
+      | inl without ↦ λ number h. let nothing = ap length without in absurd (omega (arith, h, nothing))
+      | inr none_done ↦
+          let here : Some first ≡ Some now = ap (λ k. moment_after k first) (sym none_done) ∙ passes.reached in
+          subst (AreSeen points (replicate 32 (replicate 16 None))) (sym none ∙ ap (λ (o : Option Moment). (unwrap_or o first).was) here) (seen_nothing points few are)
+    ]

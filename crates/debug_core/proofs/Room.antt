@@ -1,18 +1,14 @@
 -- What can be recorded, from step to step.
-use Rattle.std.proofs.Common.{◌≡◌, ℕ, suc, ◌+◌, arith, List, [], ◌∷◌, ◌++◌, Some, Option, subst, sym, ap, ◌∙◌, append_assoc, append-nil}
+use Rattle.std.proofs.Common.{◌≡◌, ℕ, suc, ◌+◌, arith, [], ◌∷◌, ◌++◌, Some, subst, sym, ap, ◌∙◌, append_assoc, append-nil}
 use Rattle.std.specs.Prelude.{◌↔◌}
 use Rattle.debug_core.specs.Limits.{CannotRecord, KeepsRoom, Limit, RecordsOne}
-use Rattle.debug_core.specs.Stops.{harts_before, moment_after, turn_in, Moment}
+use Rattle.debug_core.specs.Stops.{harts_before, moment_after, turn_in, Moment, RoomAfter}
 
 both_ways : {A B C : Type 0} → A ↔ B → B ↔ C → A ↔ C
 both_ways one other = ((λ a. other.0 (one.0 a)), (λ c. one.1 (other.1 c)))
 
 pub room_twice : (old between new : Limit → Type 0) → KeepsRoom old between → KeepsRoom between new → KeepsRoom old new
 room_twice old between new one other harts hart = both_ways (other harts hart) (one harts hart)
-
--- what can be recorded after so many steps of a run, by what could be recorded before the first
-abbrev pub RoomAfter : (Limit → Type 0) → (Limit → Type 0) → ℕ → Moment → Type 0
-RoomAfter first now count moment = (harts : List ℕ) (hart : ℕ) → now (CannotRecord harts hart) ↔ first (CannotRecord (harts_before count moment ++ harts) hart)
 
 pub room_first : (limits : Limit → Type 0) (moment : Moment) → RoomAfter limits limits 0 moment
 unfolding harts_before

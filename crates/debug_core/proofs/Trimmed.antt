@@ -1,5 +1,5 @@
 -- Points of which the last ones are none count as those before them.
-use Rattle.std.proofs.Common.{◌≡◌, ℕ, zero, suc, ◌+◌, ◌<◌, ◌≤◌, ◌==◌, Bool, true, false, List, [], ◌∷◌, length, take, Option, Some, None, IfSome, IfOk, OnErr, Ok, Err, is_some, option_map, slice_index_or, inl, inr, refl, sym, ap, ◌∙◌, ◌-◌, subst, arith}
+use Rattle.std.proofs.Common.{◌≡◌, ℕ, zero, suc, ◌+◌, ◌≤◌, ◌==◌, Bool, false, List, [], ◌∷◌, length, take, Option, Some, None, IfSome, IfOk, OnErr, Ok, Err, is_some, option_map, inl, inr, refl, sym, ap, ◌∙◌, ◌-◌, subst, arith}
 use Rattle.std.specs.Prelude.{◌⊎◌, if◌then◌else◌, Result}
 use Rattle.std.specs.Option.{option_or}
 use Rattle.std.proofs.lemmas.Bool.Decides.{leb_tells}
@@ -7,10 +7,9 @@ use Rattle.std.specs.List.{position_from}
 use Rattle.rv_exec.specs.Registers.{Registers}
 use Rattle.flat_machine.specs.Process.{Process, hart_registers, is_live}
 use Rattle.debug_core.specs.Points.{point_at, is_break_at, is_hit, ArePoints, IsPoint}
-use Rattle.debug_core.specs.Progresses.{ended_full}
 use Rattle.debug_core.specs.Limits.{Limit}
 use Rattle.debug_core.specs.Seen.{CannotSee, IsUnread}
-use Rattle.debug_core.specs.Stops.{break_at, moment_after, reason, reason_before, watch_hit, GoesOnBefore, IsFullAt, Moment, Passes, Stops, StopsFor, WantsAfter}
+use Rattle.debug_core.specs.Stops.{break_at, moment_after, reason, reason_before, watch_hit, IsFullAt, Moment, Passes, Stops, StopsFor, WantsAfter}
 use Rattle.debug_core.specs.declared.point.Point.{Point}
 use Rattle.debug_core.specs.declared.point.Why.{Why}
 use Rattle.debug_core.specs.declared.point.Why.TheVariants.{Ended, Watch, Gone, Break, Limit as Limited, Absent}

@@ -12,6 +12,10 @@ pub data Limit : Type 0 where
   CannotRecord : List ℕ → ℕ → Limit
   CannotHave : ℕ → Limit
 
+-- nothing is lacking
+abbrev pub lacks_none : Limit → Type 0
+lacks_none limit = ⊥
+
 -- so many bytes from an address on can be read
 abbrev pub CanRead : (Limit → Type 0) → ℕ → ℕ → Type 0
 CanRead limits address count = (why : TargetFault) → ¬ limits (CannotRead address count why)

@@ -1,5 +1,5 @@
 -- Where a debugger stops: after the least number of steps by turns at which there is a reason.
-use Rattle.std.specs.Prelude.{◌≡◌, ℕ, Bool, true, false, zero, suc, ◌<◌, ◌≤◌, ◌==◌, List, [], ◌∷◌, ◌++◌, ◌⊎◌, Option, Some, None, IfSome, is_some, option_map, option_and_then, if◌then◌else◌}
+use Rattle.std.specs.Prelude.{◌≡◌, ◌↔◌, ℕ, Bool, true, false, zero, suc, ◌<◌, ◌≤◌, ◌==◌, List, [], ◌∷◌, ◌++◌, ◌⊎◌, Option, Some, None, IfSome, is_some, option_map, option_and_then, if◌then◌else◌}
 use Rattle.std.specs.Option.{option_or}
 use Rattle.std.specs.List.{position_from}
 use Rattle.page_memory.specs.Memory.{Memory}
@@ -88,6 +88,15 @@ pub record Passes (limits : Limit → Type 0) (points : List (Option Point)) (li
   pub reached : moment_after count first ≡ Some now
   pub within : count ≤ limit
   pub before : GoesOnBefore limits points limit count first
+
+-- the same, and then it is the turn of this hart of this process
+pub record PassesTo (limits : Limit → Type 0) (points : List (Option Point)) (limit count : ℕ) (first : Moment) (turn : ℕ) (process : Process) : Type 0 where
+  pub was : Memory
+  pub passes : Passes limits points limit count first (record { process = process; turn = turn; was = was; alone = first.alone })
+
+-- what can be recorded after so many steps from a moment on, by what could be recorded before the first
+abbrev pub RoomAfter : (Limit → Type 0) → (Limit → Type 0) → ℕ → Moment → Type 0
+RoomAfter first now count moment = (harts : List ℕ) (hart : ℕ) → now (CannotRecord harts hart) ↔ first (CannotRecord (harts_before count moment ++ harts) hart)
 
 module _ {T : Type 0} (shown : T → Process) (limits : T → Limit → Type 0) where
   -- a target that shows this process can't have a page that the next step of a hart needs

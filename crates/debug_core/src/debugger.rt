@@ -274,8 +274,8 @@ fn run_with<T: Target>(
     ensures stops { IfOk result.why (λ why. Stops T.shown T.limits target.old points.now limit why
         result.steps (opening_moment alone (T.shown target.old) turn.old) turn.new
         (T.shown target.new)) }
-    ensures last { last_hart result.steps (opening_moment alone (T.shown target.old)
-        turn.old) ≡ Some result.last }
+    ensures last { OnOk result.why (last_hart result.steps (opening_moment alone
+        (T.shown target.old) turn.old) ≡ Some result.last) }
     ensures wants { OnErr result.why (WantsAfter T.limits target.old points.now limit result.steps
         (opening_moment alone (T.shown target.old) turn.old) turn.new (T.shown target.new)) }
     ensures live { alone ≡ false → is_live turn.new (T.shown target.new) ≡ true }

@@ -12,6 +12,9 @@ mod running;
 mod target;
 
 pub use debugger::Debugger;
+pub use flat_target::read_all;
+pub use looking::any_changed;
 pub use point::{DebugStep, MOST_POINTS, MOST_WATCHED, Point, Why};
 pub use refusal::DebugRefusal;
-pub use target::{Target, TargetFault, TargetStep};
+pub use running::break_before;
+pub use target::{StepsTaken, Target, TargetFault, TargetStep};

@@ -69,7 +69,7 @@ fn look_at<T: Target>(
 
 /// Whether one of some bytes was there, and is not what it was.
 #[tactic(auto, using(crate::proofs::Watching::changed_stops, crate::proofs::Watching::changed_goes_on, crate::proofs::Watching::changed_ends))]
-fn any_changed(before: &[Option<u8>], now: &[Option<u8>]) -> bool
+pub fn any_changed(before: &[Option<u8>], now: &[Option<u8>]) -> bool
     requires { length before.now ≡ length now.now }
     ensures { result ≡ any_changed before.now now.now }
 {

@@ -1,6 +1,6 @@
 //! Steps by turns, until there is a reason to stop.
 
-ghost use Rattle.std.specs.Prelude.{◌≡◌, ◌≢◌, ℕ, ◌<◌, ◌≤◌, [], true, false, None, Some, IfOk, OnErr, length};
+ghost use Rattle.std.specs.Prelude.{◌≡◌, ◌≢◌, ◌⊎◌, ℕ, ◌<◌, ◌≤◌, [], true, false, None, Some, IfErr, IfOk, OnErr, OnOk, length};
 ghost use Rattle.std.specs.List.{position_from};
 ghost use Rattle.page_memory.specs.Memory.{Memory};
 ghost use Rattle.flat_machine.specs.ByTurns.{turn_after};
@@ -10,12 +10,13 @@ ghost use Rattle.debug_core.specs.Limits.{CannotRecord, KeepsRoom, RecordsOne};
 ghost use Rattle.debug_core.specs.Points.{is_break_at, ArePoints};
 ghost use Rattle.debug_core.specs.Seen.{AreSeen, IsUnread};
 ghost use Rattle.debug_core.specs.Stops.{break_at, last_hart, reason, turn_next};
-ghost use Rattle.debug_core.specs.Stops.{Advances, Stops, WantsAfter};
+ghost use Rattle.debug_core.specs.Stops.{Advances, PassesTo, RoomAfter, Stops, WantsAfter};
 ghost use Rattle.debug_core.specs.declared.point.Why.TheVariants as why;
 
 use crate::looking::{NOTHING, Window, look};
 use crate::point::{MOST_POINTS, Point, Why};
-use crate::target::{Target, TargetFault, TargetStep};
+use crate::target::{StepsTaken, Target, TargetFault, TargetStep};
+use flat_machine::OutOfMemory;
 use std::alloc::AllocError;
 
 /// The number of the first break at which a hart stands.
@@ -28,7 +29,7 @@ pub(crate) fn break_at<T: Target>(target: &T, turn: u32, points: &[Option<Point>
 }
 
 /// The number of the first break at an address.
-fn break_before(pc: u32, points: &[Option<Point>]) -> Option<u32>
+pub fn break_before(pc: u32, points: &[Option<Point>]) -> Option<u32>
     requires few { length points.now ≤ 32 }
     ensures { result ≡ position_from (is_break_at pc) 0 points.now }
 {
@@ -171,6 +172,39 @@ fn turn_next<T: Target>(target: &T, alone: bool, turn: u32) -> u32
     if alone { turn } else { target.turn_after(turn) }
 }
 
+/// Takes the steps that can be taken at once: none, where there are points to look at, or where a hart runs alone.
+fn take_at_once<T: Target>(
+    target: &mut T,
+    alone: bool,
+    turn: &mut u32,
+    points: &[Option<Point>],
+    limit: u64,
+) -> Result<StepsTaken, OutOfMemory>
+    requires live { alone ≡ false → is_live turn.old (T.shown target.old) ≡ true }
+    ensures passed { IfOk result (λ taken. PassesTo (T.limits target.old) points.now limit
+        taken.steps (opening_moment alone (T.shown target.old) turn.old) turn.new
+        (T.shown target.new)) }
+    ensures unseen { IfOk result (λ taken. (points.now ≡ []) ⊎ (taken.steps ≡ 0)) }
+    ensures last { IfOk result (λ taken. last_hart taken.steps (opening_moment alone
+        (T.shown target.old) turn.old) ≡ Some taken.last) }
+    ensures recorded { IfOk result (λ taken. RoomAfter (T.limits target.old)
+        (T.limits target.new) taken.steps (opening_moment alone (T.shown target.old)
+        turn.old)) }
+    ensures wants { IfErr result (λ stop. WantsAfter T.limits target.old points.now limit
+        stop.steps (opening_moment alone (T.shown target.old) turn.old) turn.new
+        (T.shown target.new)) }
+    ensures live { alone ≡ false → is_live turn.new (T.shown target.new) ≡ true }
+    ensures alone { alone ≡ true → turn.new ≡ turn.old }
+{
+    if alone || !points.is_empty() {
+        return Ok(StepsTaken {
+            steps: 0,
+            last: *turn,
+        });
+    }
+    target.take_turns(turn, limit)
+}
+
 /// How a run came to its end.
 #[derive(Clone, Copy)]
 pub(crate) struct Ran {
@@ -178,7 +212,7 @@ pub(crate) struct Ran {
     pub(crate) why: Result<Why, AllocError>,
     /// How many steps were done.
     pub(crate) steps: u64,
-    /// The hart of the last one: of none the hart whose turn it was.
+    /// Where it stopped for a reason, the hart of the last one: of none the hart whose turn it was.
     pub(crate) last: u32,
 }
 
@@ -196,16 +230,27 @@ pub(crate) fn run<T: Target>(
     ensures stops { IfOk result.why (λ why. Stops T.shown T.limits target.old points.now limit why
         result.steps (opening_moment alone (T.shown target.old) turn.old) turn.new
         (T.shown target.new)) }
-    ensures last { last_hart result.steps (opening_moment alone (T.shown target.old)
-        turn.old) ≡ Some result.last }
+    ensures last { OnOk result.why (last_hart result.steps (opening_moment alone
+        (T.shown target.old) turn.old) ≡ Some result.last) }
     ensures wants { OnErr result.why (WantsAfter T.limits target.old points.now limit result.steps
         (opening_moment alone (T.shown target.old) turn.old) turn.new (T.shown target.new)) }
     ensures alone { alone ≡ true → turn.new ≡ turn.old }
     ensures live { alone ≡ false → is_live turn.new (T.shown target.new) ≡ true }
 {
     let mut seen = [NOTHING; MOST_POINTS];
-    let mut steps: u64 = 0;
-    let mut last = *turn;
+    let StepsTaken {
+        mut steps,
+        mut last,
+    } = match take_at_once(target, alone, turn, points, limit) {
+        Ok(taken) => taken,
+        Err(stop) => {
+            return Ran {
+                why: Err(AllocError),
+                steps: stop.steps,
+                last: *turn,
+            };
+        }
+    };
     'steps: loop {
         let now = *turn;
         match advance(target, alone, turn, points, &mut seen, steps, limit) {

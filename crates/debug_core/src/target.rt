@@ -1,14 +1,16 @@
 //! What a debugger looks at.
 
-ghost use Rattle.std.specs.Prelude.{◌≡◌, ◌+◌, ◌^◌, ◌≤◌, ℕ, [], true, is_some, length, option_copied, OnOk, OnErr, IfOk, IfErr};
+ghost use Rattle.std.specs.Prelude.{◌≡◌, ◌+◌, ◌^◌, ◌≤◌, ℕ, [], true, is_some, length, option_copied, OnOk, OnErr, IfOk, IfErr, Some};
 ghost use Rattle.flat_machine.specs.ByTurns.{turn_after};
 ghost use Rattle.flat_machine.specs.Process.{Process, hart_registers, is_live, may_step};
 ghost use Rattle.page_memory.specs.Memory.{byte_at};
+ghost use Rattle.debug_core.specs.Debugging.{first_moment};
 ghost use Rattle.debug_core.specs.Points.{bytes_from};
+ghost use Rattle.debug_core.specs.Stops.{last_hart, PassesTo, RoomAfter, WantsAfter};
 ghost use Rattle.debug_core.specs.Limits.{CanRead, CannotRead, CannotRecord, HeedsLimits, IsFirstFault, KeepsRoom, LeavesRoom, Limit};
 ghost use Rattle.debug_core.specs.Progresses.{Progresses};
 
-use flat_machine::End;
+use flat_machine::{End, OutOfMemory};
 use rv_exec::Regs;
 use std::alloc::AllocError;
 
@@ -21,6 +23,15 @@ pub enum TargetStep {
     Absent,
     /// No more steps can be recorded; it was not taken, and the process is ended for that.
     Full,
+}
+
+/// Steps that were taken at once.
+#[derive(Clone, Copy, Debug, PartialEq, Eq)]
+pub struct StepsTaken {
+    /// How many.
+    pub steps: u64,
+    /// The hart of the last one: of none the hart whose turn it was.
+    pub last: u32,
 }
 
 /// Why bytes can't be read, in the order in which it is tested.
@@ -79,6 +90,24 @@ pub trait Target: Drop {
         ensures err { OnErr result (shown self.new ≡ shown self.old) }
         ensures wants { OnErr result (¬ limits self.old (CannotRecord [] hart)) }
         ensures kept { OnErr result (KeepsRoom (limits self.old) (limits self.new)) };
+
+    /// Steps the hart whose turn it is, then the next, as far as it can at once, up to so many and to the end of the process: none,
+    /// where each step has to be looked at.
+    ///
+    /// # Errors
+    ///
+    /// Want of memory for the next step; the steps before it remain.
+    fn take_turns(&mut self, turn: &mut u32, most: u64) -> Result<StepsTaken, OutOfMemory>
+        requires live { is_live turn.old (shown self.old) ≡ true }
+        ensures passed { IfOk result (λ taken. PassesTo (limits self.old) [] most taken.steps
+            (first_moment (shown self.old) turn.old) turn.new (shown self.new)) }
+        ensures last { IfOk result (λ taken. last_hart taken.steps
+            (first_moment (shown self.old) turn.old) ≡ Some taken.last) }
+        ensures recorded { IfOk result (λ taken. RoomAfter (limits self.old) (limits self.new)
+            taken.steps (first_moment (shown self.old) turn.old)) }
+        ensures wants { IfErr result (λ stop. WantsAfter limits self.old [] most stop.steps
+            (first_moment (shown self.old) turn.old) turn.new (shown self.new)) }
+        ensures live { is_live turn.new (shown self.new) ≡ true };
 
     /// Reads the bytes from an address on, as many as there are places; `None` where no page is mapped. What the process shows
     /// stays. Where it fails, what is in the places is open.

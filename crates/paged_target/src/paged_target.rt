@@ -16,9 +16,9 @@ ghost use Rattle.paged_target.specs.Shown.{flat_at, shown_of, TargetValue};
 use crate::harts::next_live;
 use crate::reading::read;
 use clock_policy::Clock;
-use debug_core::{Target, TargetFault, TargetStep};
+use debug_core::{StepsTaken, Target, TargetFault, TargetStep};
 use elf_image::Image;
-use flat_machine::{End, KillCause};
+use flat_machine::{End, KillCause, OutOfMemory};
 use machine_core::{Core, CoreError, Event};
 use page_memory::page_of;
 use rv_exec::Regs;
@@ -146,6 +146,15 @@ impl<L: Ledger, C: Clock> Target for PagedTarget<L, C> {
             // It was seen that the instruction fits.
             ServedStep::Full => unreachable!(),
         }
+    }
+
+    #[tactic(auto, using(debug_core::proofs::Passing::passes_to_none, debug_core::proofs::Passing::last_of_none, debug_core::proofs::Room::room_first))]
+    fn take_turns(&mut self, turn: &mut u32, _most: u64) -> Result<StepsTaken, OutOfMemory> {
+        // Each step has to bring in its pages.
+        Ok(StepsTaken {
+            steps: 0,
+            last: *turn,
+        })
     }
 
     fn read(&mut self, address: u32, bytes: &mut [Option<u8>]) -> Result<(), TargetFault> {

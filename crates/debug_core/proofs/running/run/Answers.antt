@@ -1,24 +1,26 @@
 use Rattle.std.proofs.Common.{None, Some, [], refl, ◌∙◌}
-use Rattle.std.specs.FinMap as map
-use Rattle.page_memory.specs.Memory.{unreserved}
 use Rattle.debug_core.specs.Debugging.{opening_moment}
 use Rattle.debug_core.specs.Limits.{CannotRecord}
 use Rattle.debug_core.specs.Stops.{IsFullAt, Moment}
-use Rattle.debug_core.proofs.Passing.{advances_by, last_of_more, last_of_none, passes_none, passes_more, seen_nothing, stops_as}
-use Rattle.debug_core.proofs.Room.{room_first, room_here, room_more}
+use Rattle.debug_core.proofs.Passing.{advances_by, last_of_more, passes_more, seen_unlooked, stops_as}
+use Rattle.debug_core.proofs.Room.{room_here, room_more}
 use Rattle.debug_core.proofs.running.run.Goals as goal
 
 pub steps-init : goal.steps-init
-steps-init g c = record {
-  was = unreserved map.empty;
-  passes = passes_none (g.T.Target.limits c.args.target.now) c.args.points.now c.args.limit (opening_moment c.args.alone (g.T.Target.shown c.args.target.now) c.args.turn.now);
-  seen = seen_nothing c.args.points.now c.requires.few c.requires.points;
-  room = refl;
-  recorded = room_first (g.T.Target.limits c.args.target.now) (opening_moment c.args.alone (g.T.Target.shown c.args.target.now) c.args.turn.now);
-  last = last_of_none (opening_moment c.args.alone (g.T.Target.shown c.args.target.now) c.args.turn.now);
-  live = c.requires.live;
-  lone = λ on. refl;
-}
+steps-init g c =
+    let first : Moment = opening_moment c.args.alone (g.T.Target.shown c.args.target.now) c.args.turn.now in
+    let passed = c.in-Ok.ensures.passed in
+    record {
+      was = passed.was;
+      passes = passed.passes;
+      seen = seen_unlooked (g.T.Target.limits c.args.target.now) c.args.points.now c.args.limit c.in-Ok.taken.steps first
+          (record { process = g.T.Target.shown c.take_at_once.new.target; turn = c.take_at_once.new.turn; was = passed.was; alone = c.args.alone }) c.requires.few c.requires.points refl passed.passes c.in-Ok.ensures.unseen;
+      room = refl;
+      recorded = c.in-Ok.ensures.recorded;
+      last = c.in-Ok.ensures.last;
+      live = c.take_at_once.ensures.live;
+      lone = c.take_at_once.ensures.alone;
+    }
 
 pub steps-preserved : goal.steps-preserved
 steps-preserved g c =
@@ -66,16 +68,16 @@ returns-in-Ok-Some-clause-stops g c =
       turn_is = stop.1;
     }
 
-pub returns-in-Err-clause-wants : goal.returns-in-Err-clause-wants
-returns-in-Err-clause-wants g c =
+pub returns-in-Err-advance-clause-wants : goal.returns-in-Err-advance-clause-wants
+returns-in-Err-advance-clause-wants g c =
     let shown = g.T.Target.shown in
     let limits = g.T.Target.limits in
     let here = room_here (limits c.args.target.now) (limits c.steps.target) c.steps.steps (opening_moment c.args.alone (shown c.args.target.now) c.args.turn.now) c.steps.turn c.steps.invariant.recorded in
     record {
       now = record { process = shown c.steps.target; turn = c.steps.turn; was = c.steps.invariant.was; alone = c.args.alone };
       passes = c.steps.invariant.passes;
-      none = c.in-Err.ensures.wants c.steps.invariant.was c.steps.invariant.seen;
-      recordable = λ full. c.in-Err.ensures.err.1.1 (here.1 full);
-      process_is = c.in-Err.ensures.err.0;
-      turn_is = c.in-Err.ensures.err.1.0;
+      none = c.in-Err-advance.ensures.wants c.steps.invariant.was c.steps.invariant.seen;
+      recordable = λ full. c.in-Err-advance.ensures.err.1.1 (here.1 full);
+      process_is = c.in-Err-advance.ensures.err.0;
+      turn_is = c.in-Err-advance.ensures.err.1.0;
     }

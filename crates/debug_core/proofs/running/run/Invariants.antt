@@ -3,8 +3,7 @@ use Rattle.page_memory.specs.Memory.{Memory}
 use Rattle.flat_machine.specs.Process.{is_live}
 use Rattle.debug_core.specs.Debugging.{opening_moment}
 use Rattle.debug_core.specs.Seen.{AreSeen}
-use Rattle.debug_core.specs.Stops.{last_hart, Passes}
-use Rattle.debug_core.proofs.Room.{RoomAfter}
+use Rattle.debug_core.specs.Stops.{last_hart, Passes, RoomAfter}
 use Rattle.debug_core.proofs.running.run.Given as goal
 
 -- so many steps were done, after none of them there was a reason to stop, and the watches are seen as before the last

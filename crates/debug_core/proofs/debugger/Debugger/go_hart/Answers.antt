@@ -1,8 +1,5 @@
 -- The hart runs alone, and the turn goes on where it did a step.
-use Rattle.std.proofs.Common.{◌≡◌, IfOk, sym, ap, ◌∙◌, refl, subst}
-use Rattle.flat_machine.specs.Process.{Process}
-use Rattle.debug_core.specs.Debugging.{DebuggerValue, lone_moment}
-use Rattle.debug_core.specs.Stops.{Stops}
+use Rattle.std.proofs.Common.{◌∙◌}
 use Rattle.debug_core.proofs.Alone.{none_live}
 use Rattle.debug_core.proofs.debugger.Debugger.go_hart.Goals as goal
 

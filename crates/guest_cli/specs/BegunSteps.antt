@@ -11,7 +11,7 @@ use Rattle.guest_steps.specs.declared.step_string.StepString.{StepString}
 pub record IsBegun (image : ImageContent) (input : List ℕ) (limit : ℕ) (steps : StepString) : Type 0 where
   pub process : steps.process ≡ opening image input
   pub turn : steps.turn ≡ first_turn (opening image input)
-  pub left : steps.left ≡ limit
+  pub most : steps.limit ≡ limit
   pub none : steps.done ≡ 0
 
 -- `gives` tells, of a name, the bytes that a file of it may be found to hold

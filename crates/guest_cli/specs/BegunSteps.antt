@@ -4,7 +4,7 @@ use Rattle.elf_image.specs.Image.{ImageContent}
 use Rattle.flat_machine.specs.ByTurns.{first_turn}
 use Rattle.flat_machine.specs.Process.{opening}
 use Rattle.image_files.specs.Reading.{GivesImage}
-use Rattle.guest_io.specs.WholeInputs.{AreWhole}
+use Rattle.image_files.specs.WholeBytes.{AreWhole}
 use Rattle.guest_steps.specs.declared.step_string.StepString.{StepString}
 
 -- no step is done yet of a process that begins with this image and this input; so many may be

@@ -11,7 +11,7 @@ use Rattle.guest_steps.specs.declared.step_string.StepString.{StepString}
 use Rattle.guest_steps.specs.declared.told_step.ToldStep.{ToldStep}
 use Rattle.guest_profile.specs.Accounts.{Account, IsAccount, after_all, closed, nothing}
 use Rattle.guest_profile.specs.declared.profile.Profile.{Profile}
-use Rattle.guest_io.specs.WholeInputs.{AreWhole}
+use Rattle.image_files.specs.WholeBytes.{AreWhole}
 use Rattle.guest_cli.specs.BegunSteps.{IsBegun}
 use Rattle.guest_io.specs.GuestStatus.{guest_status}
 

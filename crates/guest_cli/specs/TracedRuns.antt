@@ -5,7 +5,7 @@ use Rattle.rv_isa.specs.declared.instruction.Insn.{Insn}
 use Rattle.rv_isa.specs.Table.{insn_of}
 use Rattle.elf_image.specs.Image.{ImageContent}
 use Rattle.image_files.specs.Reading.{GivesImage}
-use Rattle.guest_io.specs.WholeInputs.{AreWhole}
+use Rattle.image_files.specs.WholeBytes.{AreWhole}
 use Rattle.guest_steps.specs.Flows.{flow_of}
 use Rattle.guest_steps.specs.declared.flow.Flow.{Flow}
 use Rattle.guest_steps.specs.declared.flow.Flow.TheVariants.{Call, Return, Branch, Other}

@@ -1,1 +1,2 @@
+pub mod AsmRun
 pub mod FlatRun

@@ -1,5 +1,9 @@
 //! `paged asm`: a source made into an ELF file.
 
+ghost use Rattle.std.specs.Prelude.{OnOk};
+ghost use Rattle.elf_image.specs.WrittenFiles.{elf_file};
+ghost use Rattle.flat_commands.specs.AsmRun.{AsmAsAsked};
+
 use command_line::AsmRequest;
 use elf_image::write_elf;
 use image_files::{Fault, Folder, read_source};
@@ -11,7 +15,9 @@ pub fn run_asm<'a, R: Folder + AllocGlobal, W: Write>(
     rt: &R,
     request: &AsmRequest<'a>,
     out: &mut W,
-) -> Result<(), Fault<'a>> {
+) -> Result<(), Fault<'a>>
+    ensures { OnOk result (AsmAsAsked R.gives R.accepts request.now) }
+{
     let listing = read_source(rt, request.source)?;
     write_file(rt, request.target, &listing)?;
     tell(&listing, out)
@@ -22,7 +28,9 @@ fn write_file<'a, R: Folder + AllocGlobal>(
     rt: &R,
     target: &'a str,
     listing: &Listing,
-) -> Result<(), Fault<'a>> {
+) -> Result<(), Fault<'a>>
+    ensures { OnOk result (R.accepts target.now (elf_file listing.now.image)) }
+{
     let file = write_elf(rt.alloc(), listing.image())?;
     rt.write(target, file.as_slice())
 }

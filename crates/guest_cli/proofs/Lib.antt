@@ -2,3 +2,4 @@ pub mod CountedSteps
 pub mod OutputGrows
 pub mod OutputPieces
 pub mod Pieces
+pub mod TracedSteps

@@ -6,7 +6,7 @@ use Rattle.flat_machine.specs.Process.{Process, opening}
 use Rattle.flat_machine.specs.declared.end.End.{End}
 use Rattle.image_files.specs.Reading.{GivesImage}
 use Rattle.guest_io.specs.GuestStatus.{guest_status}
-use Rattle.guest_io.specs.WholeInputs.{AreWhole}
+use Rattle.image_files.specs.WholeBytes.{AreWhole}
 use Rattle.guest_cli.specs.FlatRuns.{TellsFlatRun}
 use Rattle.guest_cli.specs.TurnRuns.{TellsTurns}
 

@@ -4,14 +4,14 @@ use Rattle.elf_image.specs.Image.{ImageContent}
 use Rattle.flat_machine.specs.ByTurns.{first_turn}
 use Rattle.flat_machine.specs.Process.{opening}
 use Rattle.image_files.specs.Reading.{GivesImage}
-use Rattle.guest_io.specs.WholeInputs.{AreWhole}
+use Rattle.image_files.specs.WholeBytes.{AreWhole}
 use Rattle.guest_steps.specs.declared.step_string.StepString.{StepString}
 
 -- no step is done yet of a process that begins with this image and this input; so many may be
 pub record IsBegun (image : ImageContent) (input : List ℕ) (limit : ℕ) (steps : StepString) : Type 0 where
   pub process : steps.process ≡ opening image input
   pub turn : steps.turn ≡ first_turn (opening image input)
-  pub left : steps.left ≡ limit
+  pub most : steps.limit ≡ limit
   pub none : steps.done ≡ 0
 
 -- `gives` tells, of a name, the bytes that a file of it may be found to hold

@@ -11,7 +11,7 @@ use Rattle.guest_steps.specs.declared.step_string.StepString.{StepString}
 use Rattle.guest_steps.specs.declared.told_step.ToldStep.{ToldStep}
 use Rattle.guest_profile.specs.Accounts.{Account, IsAccount, after_all, closed, nothing}
 use Rattle.guest_profile.specs.declared.profile.Profile.{Profile}
-use Rattle.guest_io.specs.WholeInputs.{AreWhole}
+use Rattle.image_files.specs.WholeBytes.{AreWhole}
 use Rattle.guest_cli.specs.BegunSteps.{IsBegun}
 use Rattle.guest_io.specs.GuestStatus.{guest_status}
 
@@ -23,7 +23,7 @@ TellsAll (told ∷ later) old new = (between : StepString) × (Moves told old be
 -- why no more steps are told: the process's own ending, or that as many were done as were allowed, or that the next one wanted memory
 pub data StopsSo (steps : StepString) : End → Type 0 where
   Itself : (end : End) → steps.process.ending ≡ Some end → StopsSo steps end
-  Limited : steps.process.ending ≡ None → steps.left ≡ 0 → StopsSo steps (Killed Limit)
+  Limited : steps.process.ending ≡ None → steps.done ≡ steps.limit → StopsSo steps (Killed Limit)
   Wanting : WantsMemory steps.turn steps.process → StopsSo steps (Killed NoMemory)
 
 -- all steps to come are told, up to this ending, and a profile counts them

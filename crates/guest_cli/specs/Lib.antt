@@ -2,4 +2,5 @@ pub mod Answered
 pub mod BegunSteps
 pub mod CountedRuns
 pub mod FlatRuns
+pub mod TracedRuns
 pub mod TurnRuns

@@ -1,5 +1,9 @@
 //! Calls and returns as lines of a trace.
 
+ghost use Rattle.std.specs.Prelude.{◌≡◌, IfOk, OnOk};
+ghost use Rattle.guest_cli.specs.TracedRuns.{flow_depth, is_of_function, step_flow};
+ghost use Rattle.guest_profile.specs.Depths.{depths_after, harts_of};
+
 use elf_symbols::Symbols;
 use guest_profile::Depths;
 use guest_steps::{Flow, ToldStep, flow_of};
@@ -8,30 +12,49 @@ use std::alloc::AllocError;
 use std::io;
 use std::io::Write;
 
-/// How deep a step stands: that of a call where the caller stands, that of a return where it comes back to. `None` for other steps.
+/// How deep a step stands: a call where the caller stands, another step where its hart goes on.
 pub(crate) fn depth_of(
     depths: &mut Depths,
     told: &ToldStep,
-) -> Result<Option<(Flow, usize)>, AllocError> {
-    let flow = flow_of_step(told);
+    flow: Flow,
+) -> Result<usize, AllocError>
+    ensures followed { OnOk result (harts_of depths.new ≡
+        depths_after flow told.now (harts_of depths.old)) }
+    ensures depth { IfOk result (λ depth. depth ≡ flow_depth flow told.now.hart
+        (harts_of depths.old) (harts_of depths.new)) }
+{
     let before = depths.depth(told.hart);
     depths.follow(told, flow)?;
-    Ok(match flow {
-        Flow::Call => Some((flow, before)),
-        Flow::Return => Some((flow, depths.depth(told.hart))),
-        Flow::Branch => None,
-        Flow::Other => None,
-    })
+    match flow {
+        Flow::Call => Ok(before),
+        Flow::Return => Ok(depths.depth(told.hart)),
+        Flow::Branch => Ok(depths.depth(told.hart)),
+        Flow::Other => Ok(depths.depth(told.hart)),
+    }
 }
 
 /// What a step is for the flow of the program.
-fn flow_of_step(told: &ToldStep) -> Flow {
+pub(crate) fn flow_of_step(told: &ToldStep) -> Flow
+    ensures { result ≡ step_flow told.now.word }
+{
     let Ok(word) = told.word else {
         return Flow::Other;
     };
     match decode(word) {
         Some(insn) => flow_of(insn),
         None => Flow::Other,
+    }
+}
+
+/// Whether it is a call or a return.
+pub(crate) fn is_of_function(flow: Flow) -> bool
+    ensures { result ≡ is_of_function flow }
+{
+    match flow {
+        Flow::Call => true,
+        Flow::Return => true,
+        Flow::Branch => false,
+        Flow::Other => false,
     }
 }
 

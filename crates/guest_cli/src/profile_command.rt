@@ -113,7 +113,7 @@ fn count_steps<'a>(steps: &mut StepString, profile: &mut Profile) -> Result<End,
 
 /// How a program ended that goes on no more: one that has not ended was stopped at the limit.
 fn end_of(steps: &StepString) -> End
-    requires over { (steps.now.left ≡ 0) ⊎ IsSome steps.now.process.ending }
+    requires over { (steps.now.done ≡ steps.now.limit) ⊎ IsSome steps.now.process.ending }
     ensures { StopsSo steps.now result }
 {
     match steps.process().end() {

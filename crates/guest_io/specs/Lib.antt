@@ -1,2 +1,1 @@
 pub mod GuestStatus
-pub mod WholeInputs

@@ -1,6 +1,7 @@
 //! Files that are there whole, or not at all.
 
-ghost use Rattle.std.specs.Prelude.{◌≡◌, ℕ, ⊤, List, OnOk};
+ghost use Rattle.std.specs.Prelude.{ℕ, List, OnOk};
+ghost use Rattle.image_files.specs.WholeBytes.{AreTaken};
 
 use image_files::{Fault, Folder};
 use std::fs;
@@ -16,10 +17,10 @@ pub trait WholeFiles {
         ensures { OnOk result (takes name.now bytes.now) };
 }
 
-/// Of the system's files nothing is known behind what it answers. The bytes go to a file NAME.new, which then gets the name. What is no plain
-/// file, as a device, keeps its name, and takes the bytes itself.
+/// Of the system's files no name is known, but an open one took the bytes. They go to a file NAME.new, which then gets the name. What is no
+/// plain file, as a device, keeps its name, and takes the bytes itself.
 impl<R: Files + AllocGlobal> WholeFiles for R {
-    ghost takes = { λ _ _. ⊤ };
+    ghost takes = { λ _ bytes. AreTaken R.File.contents bytes };
 
     fn put<'a>(&self, name: &'a str, bytes: &[u8]) -> Result<(), Fault<'a>> {
         if is_of_another_kind(self, name) {

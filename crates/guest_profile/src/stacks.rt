@@ -8,10 +8,8 @@ use crate::call_counts::CallCounts;
 use crate::call_site::Jump;
 use crate::call_stack::CallStack;
 use guest_steps::Flow;
+use machine_limits::MOST_HARTS;
 use std::alloc::{AllocError, Global};
-
-/// How many harts a process may have.
-const MOST_HARTS: usize = 8;
 
 /// Harts that have called nothing.
 pub(crate) fn no_stacks(alloc: Global) -> Result<Vec<CallStack>, AllocError>

@@ -1,12 +1,14 @@
 -- What one more step of a string does.
-use Rattle.std.specs.Prelude.{◌≡◌, ◌+◌}
+use Rattle.std.specs.Prelude.{◌≡◌, ◌<◌, ◌+◌}
 use Rattle.flat_machine.specs.ByTurns.{turn_after}
 use Rattle.guest_steps.specs.Telling.{TellsStep}
 use Rattle.guest_steps.specs.declared.told_step.ToldStep.{ToldStep}
 use Rattle.guest_steps.specs.declared.step_string.StepString.{StepString}
 
--- The hart whose turn it was did the step that is told, and it is the next one's turn.
+-- The hart whose turn it was did the step that is told, which was allowed and is counted, and it is the next one's turn.
 pub record Moves (told : ToldStep) (old new : StepString) : Type 0 where
   pub told_is : TellsStep told old.turn old.process new.process
   pub turn : new.turn ≡ turn_after old.turn new.process
-  pub left : new.left + 1 ≡ old.left
+  pub allowed : old.done < old.limit
+  pub counted : new.done ≡ old.done + 1
+  pub limit : new.limit ≡ old.limit

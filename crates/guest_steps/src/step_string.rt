@@ -1,6 +1,6 @@
 //! Steps by turns, one after another.
 
-ghost use Rattle.std.specs.Prelude.{◌≡◌, ◌⊎◌, true, IfOk, IfSome, IsSome, None, OnErr};
+ghost use Rattle.std.specs.Prelude.{◌≡◌, ◌≤◌, ◌⊎◌, true, IfOk, IfSome, IsSome, None, OnErr};
 ghost use Rattle.flat_machine.specs.ByTurns.{first_turn};
 ghost use Rattle.flat_machine.specs.Process.{is_live};
 ghost use Rattle.flat_machine.specs.Refusals.{WantsMemory};
@@ -17,9 +17,10 @@ pub struct StepString {
     turn: u32,
     /// How many steps were done.
     done: u64,
-    /// How many more may be done.
-    left: u64,
+    /// How many may be done.
+    limit: u64,
     ghost live: { is_live turn process ≡ true },
+    ghost within: { done ≤ limit },
 }
 
 impl StepString {
@@ -29,7 +30,7 @@ impl StepString {
     pub fn new(process: FlatProcess, limit: u64) -> Self
         ensures process { result.process ≡ process }
         ensures turn { result.turn ≡ first_turn process }
-        ensures left { result.left ≡ limit }
+        ensures limit { result.limit ≡ limit }
         ensures none { result.done ≡ 0 }
     {
         let turn = if process.is_live(0) {
@@ -41,7 +42,7 @@ impl StepString {
             process,
             turn,
             done: 0,
-            left: limit,
+            limit,
         }
     }
 
@@ -53,17 +54,16 @@ impl StepString {
     pub fn next(&mut self) -> Result<Option<ToldStep>, AllocError>
         ensures moves { IfOk result (λ next. IfSome next (λ told. Moves told self.old self.new)) }
         ensures end { IfOk result (λ next. next ≡ None → (self.new ≡ self.old) ×
-            ((self.old.left ≡ 0) ⊎ IsSome self.old.process.ending)) }
+            ((self.old.done ≡ self.old.limit) ⊎ IsSome self.old.process.ending)) }
         ensures wants { OnErr result (WantsMemory self.old.turn self.old.process) }
         ensures err { OnErr result (self.new ≡ self.old) }
     {
-        if self.left == 0 || self.process.end().is_some() {
+        if self.done == self.limit || self.process.end().is_some() {
             return Ok(None);
         }
         match step(&mut self.process, self.turn) {
             Ok(told) => {
-                self.left -= 1;
-                self.done = self.done.saturating_add(1);
+                self.done += 1;
                 self.turn = self.process.turn_after(self.turn);
                 Ok(Some(told))
             }

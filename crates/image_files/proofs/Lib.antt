@@ -1,4 +1,5 @@
 pub mod Given
 pub mod ImageFaults
+pub mod WholeInput
 pub mod WordLines
 pub mod ZeroSlots

@@ -5,4 +5,5 @@ pub mod Reading
 pub mod Refused
 pub mod SlotFiles
 pub mod Told
+pub mod WholeBytes
 pub mod WordsFile

@@ -1,12 +1,13 @@
 //! Files that commands read and write whole, and files of slots.
 
-ghost use Rattle.std.specs.Prelude.{◌≡◌, ◌≤◌, ℕ, ⊤, List, [], false, is_some, IfErr, IfOk, option_map, vec_len};
+ghost use Rattle.std.specs.Prelude.{◌≡◌, ◌≤◌, ℕ, ⊤, List, [], false, is_some, IfErr, IfOk, OnOk, option_map, vec_len};
 ghost use Rattle.std.specs.Str.{IsUtf8};
 ghost use Rattle.image_files.specs.FileFaults.{IsNoText};
 ghost use Rattle.image_files.specs.Faults.{IsOfNoLine, IsUnread, IsUnwritten};
 ghost use Rattle.image_files.specs.Reading.{GivesInput};
 ghost use Rattle.image_files.specs.Refused.{GivesNoInput, GivesNoText};
 ghost use Rattle.image_files.specs.SlotFiles.{AreNewFiles, AreNoNewFiles};
+ghost use Rattle.image_files.specs.WholeBytes.{AreRead, AreTaken, AreWhole};
 
 use crate::fault::Fault;
 use crate::system_files::{MOST_BYTES, open_to_read, write_file};
@@ -23,6 +24,9 @@ pub trait Folder: FileMaker {
     /// Whether it may be found that a file of this name can't be read.
     ghost withholds: { List ℕ → Type 0 };
 
+    /// Whether a file of this name may be made of these bytes.
+    ghost accepts: { List ℕ → List ℕ → Type 0 };
+
     /// The bytes of a file.
     fn read<'a>(&self, name: &'a str) -> Result<Vec<u8>, Fault<'a>>
         ensures bytes { IfOk result (λ bytes. gives name.now bytes.items) }
@@ -31,6 +35,7 @@ pub trait Folder: FileMaker {
 
     /// Makes a file anew of these bytes. Where it takes none, no file is left that was not there before.
     fn write<'a>(&self, name: &'a str, bytes: &[u8]) -> Result<(), Fault<'a>>
+        ensures accepted { OnOk result (accepts name.now bytes.now) }
         ensures fault { IfErr result IsOfNoLine }
         ensures unwritten { IfErr result (IsUnwritten name.now) };
 
@@ -44,11 +49,14 @@ pub trait Folder: FileMaker {
         ensures refused { IfErr result (AreNoNewFiles Self.makes Self.refuses prefix.now count) };
 }
 
-/// Of the system's files nothing is known before they are read, nor which of them can be.
+/// Of the system's files no name is known, before they are read, nor which of them can be. What is read is all that an open one still has,
+/// and what is written an open one takes whole.
 impl<R: Files + AllocGlobal> Folder for R {
-    ghost gives = { λ _ _. ⊤ };
+    ghost gives = { λ _ bytes. AreRead R.File.remaining bytes };
 
     ghost withholds = { λ _. ⊤ };
+
+    ghost accepts = { λ _ bytes. AreTaken R.File.contents bytes };
 
     fn read<'a>(&self, name: &'a str) -> Result<Vec<u8>, Fault<'a>> {
         read_file(self, name)
@@ -72,15 +80,30 @@ impl<R: Files + AllocGlobal> Folder for R {
 
 /// The bytes of a file.
 pub fn read_file<'a, R: Files + AllocGlobal>(rt: &R, name: &'a str) -> Result<Vec<u8>, Fault<'a>>
+    ensures read { IfOk result (λ bytes. AreRead R.File.remaining bytes.items) }
     ensures few { IfOk result (λ bytes. vec_len bytes ≤ MOST_BYTES) }
     ensures fault { IfErr result IsOfNoLine }
     ensures unread { IfErr result (IsUnread (λ _. ⊤) name.now) }
 {
-    let Some(file) = open_to_read(rt, name) else {
-        return Err(Fault::CannotRead(name));
-    };
-    let mut bytes = Vec::new(rt.alloc());
-    if let Err(error) = file.take(MOST_BYTES as u64 + 1).read_to_end(&mut bytes) {
+    match open_to_read(rt, name) {
+        Some(file) => read_whole(rt.alloc(), file, name),
+        None => Err(Fault::CannotRead(name)),
+    }
+}
+
+/// All bytes of an input, which its name tells in a fault.
+pub fn read_whole<'a, I: Read + Drop>(
+    alloc: Global,
+    input: I,
+    name: &'a str,
+) -> Result<Vec<u8>, Fault<'a>>
+    ensures whole { IfOk result (λ bytes. AreWhole (I.remaining input) bytes.items) }
+    ensures few { IfOk result (λ bytes. vec_len bytes ≤ MOST_BYTES) }
+    ensures fault { IfErr result IsOfNoLine }
+    ensures unread { IfErr result (IsUnread (λ _. ⊤) name.now) }
+{
+    let mut bytes = Vec::new(alloc);
+    if let Err(error) = input.take(MOST_BYTES as u64 + 1).read_to_end(&mut bytes) {
         return match error.kind() {
             ErrorKind::OutOfMemory => Err(Fault::NoMemory),
             _ => Err(Fault::CannotRead(name)),

@@ -16,7 +16,7 @@ mod words_file;
 pub use beginning::begin;
 pub use ending::{fail, finish};
 pub use fault::Fault;
-pub use files::{Folder, read_input, read_text};
+pub use files::{Folder, read_input, read_text, read_whole};
 pub use image_file::{image_in, read_image, read_processes, read_source};
 pub use slots::memory_slots;
 pub use words::read_words;

@@ -1,9 +1,10 @@
 //! Files of the system: which are not read, and what is left of one that can't be written.
 
-ghost use Rattle.std.specs.Prelude.{◌≡◌, ◌<◌, ◌⊎◌, ◌↔◌, IsTrue};
+ghost use Rattle.std.specs.Prelude.{◌≡◌, ◌<◌, ◌⊎◌, ◌↔◌, IsTrue, OnOk};
 ghost use Rattle.std.specs.Fs.{file_type, metadata_len, IsDir};
+ghost use Rattle.image_files.specs.WholeBytes.{AreTaken};
 
-use std::fs::{File, Metadata, OpenFile};
+use std::fs::{File, Metadata, OpenFile, OpenOptions};
 use std::io::{ErrorKind, Write};
 use std::os::unix::fs::FileTypeExt;
 use std::rt::Files;
@@ -45,7 +46,9 @@ pub fn is_refused(metadata: &Metadata) -> bool
 
 /// Makes a file anew of these bytes. Where they can't be written, a file that was not there before is removed. Nothing is written to a
 /// named pipe, which may have no reader.
-pub fn write_file<R: Files>(rt: &R, name: &str, bytes: &[u8]) -> io::Result<()> {
+pub fn write_file<R: Files>(rt: &R, name: &str, bytes: &[u8]) -> io::Result<()>
+    ensures { OnOk result (AreTaken R.File.contents bytes.now) }
+{
     if is_named_pipe(rt, name) {
         return Err(io::Error::from(ErrorKind::Unsupported));
     }
@@ -57,11 +60,21 @@ pub fn write_file<R: Files>(rt: &R, name: &str, bytes: &[u8]) -> io::Result<()> 
             }
             written
         }
-        Err(error) if error.kind() == ErrorKind::AlreadyExists => fs::write(rt, name, bytes),
+        Err(error) if error.kind() == ErrorKind::AlreadyExists => {
+            let file = OpenOptions::new()
+                .write(true)
+                .create(true)
+                .truncate(true)
+                .open(rt, name)?;
+            write_bytes(file, bytes)
+        }
         Err(error) => Err(error),
     }
 }
 
-fn write_bytes<W: Write + Drop>(mut file: W, bytes: &[u8]) -> io::Result<()> {
+/// Writes bytes to an open file, all of them.
+fn write_bytes<W: Write + Drop>(mut file: W, bytes: &[u8]) -> io::Result<()>
+    ensures { OnOk result (AreTaken W.contents bytes.now) }
+{
     file.write_all(bytes)
 }

@@ -3,7 +3,7 @@ use Rattle.std.specs.Prelude.{◌≡◌, ℕ, ◌≤◌, ◌⊎◌, ⊤, List, [
 use Rattle.elf_image.specs.Image.{ImageContent}
 use Rattle.flat_machine.specs.Process.{Process, opening}
 use Rattle.image_files.specs.Reading.{HoldsImage}
-use Rattle.guest_io.specs.WholeInputs.{AreWhole}
+use Rattle.image_files.specs.WholeBytes.{AreWhole}
 use Rattle.run_records.specs.Prints.{print_of}
 use Rattle.run_records.specs.Records.{RecordValue}
 use Rattle.run_records.specs.Replaying.{Replays}

@@ -8,7 +8,7 @@ use Rattle.image_files.specs.Reading.{HoldsImage}
 use Rattle.image_files.specs.Refused.{GivesNoImage}
 use Rattle.image_files.specs.declared.fault.Fault.TheVariants.{CannotWrite, NoMemory}
 use Rattle.guest_io.specs.GuestStatus.{guest_status}
-use Rattle.guest_io.specs.WholeInputs.{AreWhole}
+use Rattle.image_files.specs.WholeBytes.{AreWhole}
 use Rattle.run_records.specs.Prints.{print_of}
 use Rattle.run_records.specs.Records.{RecordValue, record_of}
 use Rattle.run_records.specs.Replaying.{Replays, StopsReplay}

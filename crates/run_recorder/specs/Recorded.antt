@@ -8,7 +8,7 @@ use Rattle.flat_machine.specs.declared.end.End.TheVariants.{Killed}
 use Rattle.flat_machine.specs.declared.end.KillCause.TheVariants.{Limit}
 use Rattle.guest_frames.specs.FrameRuns.{PlaysProcess}
 use Rattle.guest_io.specs.GuestStatus.{guest_status}
-use Rattle.guest_io.specs.WholeInputs.{AreWhole}
+use Rattle.image_files.specs.WholeBytes.{AreWhole}
 use Rattle.hart_carriers.specs.Ending.{IsReportOf}
 use Rattle.hart_carriers.specs.declared.crew.CrewRequest.{CrewRequest}
 use Rattle.hart_carriers.specs.declared.report.RunReport.{RunReport}

@@ -11,7 +11,7 @@ returns g c = record {
   begun = record {
     process = c.new-2.ensures.process ∙ c.in_ok-process.ensures;
     turn = c.new-2.ensures.turn ∙ ap first_turn c.in_ok-process.ensures;
-    left = c.new-2.ensures.left;
+    most = c.new-2.ensures.limit;
     none = c.new-2.ensures.none;
   };
   file_given = c.in_ok-file.ensures.bytes;

@@ -1,4 +1,4 @@
-use Rattle.std.proofs.Common.{List}
+use Rattle.std.proofs.Common.{◌-◌, List}
 use Rattle.guest_steps.specs.declared.told_step.ToldStep.{ToldStep}
 use Rattle.guest_profile.specs.Accounts.{Account, IsAccount, after_all}
 use Rattle.guest_cli.specs.CountedRuns.{TellsAll}
@@ -12,4 +12,4 @@ invariant-steps l = record {
 }
 
 abbrev pub decreases-steps : goal.decreases-steps
-decreases-steps l = l.steps.left
+decreases-steps l = l.steps.limit - l.steps.done

@@ -2,7 +2,7 @@
 use Rattle.std.proofs.Common.{◌≡◌, ℕ, ◌+◌, ◌≤◌, List, length, take, Option, Some, None, IfSome, ap, ◌∙◌, arith}
 use Rattle.std.specs.Option.{option_map}
 use Rattle.std.proofs.lemmas.List.{length-take, take_all}
-use Rattle.guest_io.specs.WholeInputs.{AreWhole}
+use Rattle.image_files.specs.WholeBytes.{AreWhole}
 
 -- where it has no more than it may, it is whole
 pub whole_input : (known : Option (List ℕ)) (limit most : ℕ) (bytes : List ℕ) → limit ≡ most + 1 → IfSome (option_map (take limit) known) (λ all. bytes ≡ all) → length bytes ≤ most → AreWhole known bytes

@@ -1,8 +1,8 @@
 use Rattle.std.proofs.Common.{◌≡◌, ◌++◌, ◌≤◌, ℕ, List, length, take, IfSome, subst, rules}
 use Rattle.std.specs.Option.{option_map}
-use Rattle.guest_io.specs.WholeInputs.{AreWhole}
-use Rattle.guest_io.proofs.WholeInput.{whole_input}
-use Rattle.guest_io.proofs.input.read_whole.Goals as goal
+use Rattle.image_files.specs.WholeBytes.{AreWhole}
+use Rattle.image_files.proofs.WholeInput.{whole_input}
+use Rattle.image_files.proofs.files.read_whole.Goals as goal
 
 pub returns-clause-whole : goal.returns-clause-whole
 returns-clause-whole g c =

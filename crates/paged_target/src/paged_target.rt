@@ -148,7 +148,7 @@ impl<L: Ledger, C: Clock> Target for PagedTarget<L, C> {
         }
     }
 
-    #[tactic(auto, using(debug_core::proofs::Passing::passes_to_none, debug_core::proofs::Passing::last_of_none, debug_core::proofs::Room::room_first))]
+    #[tactic(auto, using(debug_core::proofs::Passing::last_of_none))]
     fn take_turns(&mut self, turn: &mut u32, _most: u64) -> Result<StepsTaken, OutOfMemory> {
         // Each step has to bring in its pages.
         Ok(StepsTaken {

@@ -10,10 +10,10 @@ use Rattle.flat_machine.specs.declared.by_turns.OutOfMemory.{OutOfMemory}
 use Rattle.guest_cli.proofs.OutputGrows.{Extends, output_grows}
 
 -- a piece of a run, whether or not memory was wanting
-pub piece_grows : (ran : Result ℕ OutOfMemory) (most turn next : ℕ) (old new : Process) → IfOk ran (λ steps. by_turns steps turn old ≡ Some (next, new)) → IfErr ran (λ stop. (stop.steps < most) × WantsAt turn old stop.steps new)
+pub piece_grows : (ran : Result ℕ OutOfMemory) (most turn next : ℕ) (old new : Process) → IfOk ran (λ steps. by_turns steps turn old ≡ Some (next, new)) → IfErr ran (λ stop. (stop.steps < most) × WantsAt turn old stop.steps next new)
     → Extends old.environment.output new.environment.output
 piece_grows (Ok steps) most turn next old new done stopped = output_grows steps turn next old new done
-piece_grows (Err stop) most turn next old new done stopped = output_grows stop.steps turn stopped.1.turn old new stopped.1.ran
+piece_grows (Err stop) most turn next old new done stopped = output_grows stop.steps turn next old new stopped.1.ran
 
 -- what was written before, and what stands behind it, is all
 pub piece_written : (first middle last : Option (List ℕ)) (old new shown : List ℕ) (count : ℕ) → Appends first middle old → Extends old new → count ≡ length old → shown ≡ new → Appends middle last (drop count shown) → Appends first last new

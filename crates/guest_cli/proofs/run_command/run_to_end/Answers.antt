@@ -47,10 +47,10 @@ returns-in-Err g c =
     let few = c.in-Err.ensures.memory.0 in
     let grown = piece_grows c.run_turns-ran.result c.min-most.result c.pieces.turn c.run_turns-ran.new.turn c.pieces.process c.run_turns-ran.new.self c.run_turns-ran.ensures.ran c.run_turns-ran.ensures.memory in
     record {
-      turn = wants.turn;
-      ran = more_turns c.pieces.steps c.in-Err.stop.steps (first_turn process) c.pieces.turn wants.turn process c.pieces.process c.run_turns-ran.new.self kept.ran wants.ran;
+      turn = c.run_turns-ran.new.turn;
+      ran = more_turns c.pieces.steps c.in-Err.stop.steps (first_turn process) c.pieces.turn c.run_turns-ran.new.turn process c.pieces.process c.run_turns-ran.new.self kept.ran wants.ran;
       within = omega (arith, few);
-      ended = Wanting (goes_on wants.turn c.run_turns-ran.new.self wants.wants.may) wants.wants;
+      ended = Wanting (goes_on c.run_turns-ran.new.turn c.run_turns-ran.new.self wants.wants.may) wants.wants;
       written = piece_written _ _ _ c.pieces.process.environment.output c.run_turns-ran.new.self.environment.output c.output-in-pieces.result.now c.pieces.written kept.written grown kept.counted c.output-in-pieces.ensures c.in_ok-written-2.ensures.more;
     }
 

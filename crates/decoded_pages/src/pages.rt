@@ -28,6 +28,22 @@ impl DecodedPages {
         Ok(DecodedPages { pages })
     }
 
+    /// A copy of the decoded pages.
+    pub fn try_clone(&self, alloc: Global) -> Result<Self, AllocError>
+        ensures { IfOk result (λ copy. (memory : Memory) → ShowsAll self.now memory →
+            ShowsAll copy memory) }
+    {
+        let mut pages = Vec::with_capacity(alloc, self.pages.len())?;
+        'pages: for place in 0..self.pages.len() {
+            let page = match &self.pages[place] {
+                Some(page) => Some(page.try_clone(alloc)?),
+                None => None,
+            };
+            pages.push(page)?;
+        }
+        Ok(DecodedPages { pages })
+    }
+
     /// Adds the page of a number, with these rights and bytes, if it may be run and not written and its place is free.
     pub fn add(
         &mut self,

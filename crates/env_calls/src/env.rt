@@ -69,6 +69,22 @@ impl Env {
         }
     }
 
+    /// A copy of the environment, which shares the input.
+    pub fn try_clone(&self, alloc: Global) -> Result<Self, AllocError>
+        ensures { IfOk result (λ copy. copy ≡ self.now) }
+    {
+        let mut output = Vec::new(alloc);
+        output.extend_from_slice(&self.output)?;
+        Ok(Env {
+            input: self.input.share()?,
+            position: self.position,
+            output,
+            break_at: self.break_at,
+            pages: self.pages,
+            harts: self.harts.copied(),
+        })
+    }
+
     /// The bytes of the input that no call has read yet.
     pub fn input(&self) -> &[u8]
         ensures { result.now ≡ self.now.input }

@@ -1,7 +1,7 @@
 //! What the calls of a process share and keep: unread input, output, the break, mapped pages, live harts.
 
 ghost use Rattle.std.specs.Prelude.{◌≡◌, ◌≤◌, ◌<◌, ◌+◌, ◌*◌, ◌^◌, true, false, [], ◌∷◌, ◌++◌, OnOk};
-ghost use Rattle.std.specs.Prelude.{OnErr, length, drop, slice_index_or};
+ghost use Rattle.std.specs.Prelude.{OnErr, IfOk, length, drop, slice_index_or};
 ghost use Rattle.std.specs.Bool.{OnTrue, OnFalse};
 ghost use Rattle.page_memory.specs.MemoryMap.{image_end_page, most_pages};
 ghost use Rattle.env_calls.specs.Environment.{most_harts, next_live, any_live};
@@ -67,6 +67,22 @@ impl Env {
             pages,
             harts: LiveHarts::new(),
         }
+    }
+
+    /// A copy of the environment, which shares the input.
+    pub fn try_clone(&self, alloc: Global) -> Result<Self, AllocError>
+        ensures { IfOk result (λ copy. copy ≡ self.now) }
+    {
+        let mut output = Vec::new(alloc);
+        output.extend_from_slice(&self.output)?;
+        Ok(Env {
+            input: self.input.share()?,
+            position: self.position,
+            output,
+            break_at: self.break_at,
+            pages: self.pages,
+            harts: self.harts.copied(),
+        })
     }
 
     /// The bytes of the input that no call has read yet.

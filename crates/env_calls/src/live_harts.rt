@@ -38,6 +38,16 @@ impl LiveHarts {
         }
     }
 
+    /// The same harts, live once more.
+    pub fn copied(&self) -> Self
+        ensures { result ≡ self.now }
+    {
+        LiveHarts {
+            marks: self.marks,
+            started: self.started,
+        }
+    }
+
     /// The marks of the harts that were started.
     pub fn marks(&self) -> &[bool]
         ensures marks { result.now ≡ self.now }

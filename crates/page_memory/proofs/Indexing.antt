@@ -6,7 +6,7 @@ use Rattle.std.proofs.lemmas.List.Sums.{position_or_len_is}
 use Rattle.std.proofs.lemmas.Map.Keys.{IsDistinct-from_apart}
 use Rattle.std.proofs.lemmas.Map.Steps.{length-le_from_distinct_below}
 use Rattle.std.proofs.lemmas.Bool.Decides.{eqb_tells, leb_tells}
-use Rattle.std.proofs.lemmas.List.{get_or_default, get_or_append_left, length_push, get_or-replicate, length-replicate, length-take-le, take-take, take_all}
+use Rattle.std.proofs.lemmas.List.{get_or_default, get_or_append_left, length_push, get_or-replicate, length-replicate, length-take-le, get_or-take, take-take, take_all}
 use Rattle.std.proofs.lemmas.Option.{none-some}
 use Rattle.std.proofs.Math.Seq.{get_or-append_seam}
 use Rattle.std.proofs.lemmas.Grind.{common_steps}
@@ -51,6 +51,14 @@ apart directory pages is i j d below within e =
     let second : kept_number directory (slice_index pages j) ≡ j + 1 = is.listed j within in
     let one = ap (kept_number directory) same in
     omega arith
+
+-- a page is not among those before it
+pub fresh : (directory : List (Option (Box (List ℕ)))) (pages : List ℕ) (place : ℕ) → Indexes directory pages → place < length pages → position (λ listed. listed == slice_index pages place) (take place pages) ≡ None
+fresh directory pages place is within =
+    let many : length (take place pages) ≡ place = length-take-le place pages (omega arith) in
+    place_past (take place pages) (slice_index pages place)
+    (first_place (take place pages) (slice_index pages place) (length (take place pages)) (omega arith)
+    (λ k h e. apart directory pages is k place 0 (omega arith) within (sym (get_or-take place pages k 0 (omega arith)) ∙ e)) (λ h. absurd (omega (arith, h))))
 
 -- different pages below 2^20 are at most 2^20
 pub few : (directory : List (Option (Box (List ℕ)))) (pages : List ℕ) → Indexes directory pages → length pages ≤ 2 ^ 20

@@ -50,6 +50,16 @@ impl FlatMemory {
         })
     }
 
+    /// A copy of the memory.
+    pub fn try_clone(&self) -> Result<Self, AllocError>
+        ensures { IfOk result (λ copy. copy ≡ self.now) }
+    {
+        Ok(FlatMemory {
+            pages: self.pages.try_clone()?,
+            reservations: self.reservations.copied(),
+        })
+    }
+
     /// Maps a page where none is mapped.
     pub fn map_page(&mut self, number: u32, page: Page) -> Result<(), AllocError>
         requires small { number < 2 ^ 20 }

@@ -57,6 +57,17 @@ impl FlatPages {
         })
     }
 
+    /// A copy of the pages.
+    pub fn try_clone(&self) -> Result<Self, AllocError>
+        ensures { IfOk result (λ copy. copy ≡ self.now) }
+    {
+        Ok(FlatPages {
+            alloc: self.alloc,
+            pages: self.pages.try_clone(self.alloc)?,
+            recent: self.recent,
+        })
+    }
+
     /// Maps a page where none is mapped.
     #[tactic(auto, using(crate::proofs::EntriesLaws::mapping))]
     pub fn map_page(&mut self, number: u32, page: Page) -> Result<(), AllocError>

@@ -46,6 +46,19 @@ impl PageIndex {
         })
     }
 
+    /// A copy of the list.
+    pub fn try_clone(&self, alloc: Global) -> Result<Self, AllocError>
+        ensures { IfOk result (λ copy. copy ≡ self.now) }
+    {
+        // For the proof only: a read shows its invariant.
+        let _ = &self.directory;
+        let mut copy = PageIndex::new(alloc)?;
+        'places: for place in 0..self.pages.len() {
+            copy.push(alloc, self.pages[place])?;
+        }
+        Ok(copy)
+    }
+
     /// How many pages are listed.
     #[inline]
     pub fn len(&self) -> usize

@@ -147,3 +147,17 @@ impl<T> PageMap<T> {
         self.values.truncate(count);
     }
 }
+
+impl<T: Copy> PageMap<T> {
+    /// A copy of the map, with each page at its place.
+    pub fn try_clone(&self, alloc: Global) -> Result<Self, AllocError>
+        ensures { IfOk result (λ copy. copy ≡ self.now) }
+    {
+        let mut values = Vec::new(alloc);
+        values.extend_from_slice(&self.values)?;
+        Ok(PageMap {
+            index: self.index.try_clone(alloc)?,
+            values,
+        })
+    }
+}

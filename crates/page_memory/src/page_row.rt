@@ -52,6 +52,18 @@ impl PageRow {
         })
     }
 
+    /// A copy of the row, with each page at its place.
+    pub fn try_clone(&self, alloc: Global) -> Result<Self, AllocError>
+        ensures { IfOk result (λ copy. copy ≡ self.now) }
+    {
+        let mut bytes = Vec::new(alloc);
+        bytes.extend_from_slice(&self.bytes)?;
+        Ok(PageRow {
+            rights: self.rights.try_clone(alloc)?,
+            bytes,
+        })
+    }
+
     /// The place of a page.
     #[inline]
     #[tactic(auto, using(crate::proofs::PageRows::same_place, crate::proofs::PageRows::as_many))]

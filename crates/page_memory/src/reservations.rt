@@ -40,6 +40,16 @@ impl Reservations {
         }
     }
 
+    /// The same words, reserved once more.
+    pub fn copied(&self) -> Self
+        ensures { result ≡ self.now }
+    {
+        Reservations {
+            by_hart: self.by_hart,
+            any: self.any,
+        }
+    }
+
     /// Whether a hart has reserved the word at an address.
     #[tactic(auto, unfolding(crate::specs::Reservations::has_reserved))]
     pub fn has(&self, hart: u32, address: u32) -> bool

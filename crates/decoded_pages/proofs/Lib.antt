@@ -1,4 +1,5 @@
 pub mod Standing
+pub mod Copies
 pub mod Done
 pub mod Listing
 pub mod Keeping

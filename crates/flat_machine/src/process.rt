@@ -1,14 +1,16 @@
 //! A process on flat memory: its harts' registers, environment, memory and ending.
 
-ghost use Rattle.std.specs.Prelude.{◌≡◌, option_copied};
+ghost use Rattle.std.specs.Prelude.{◌≡◌, IfOk, option_copied};
 ghost use Rattle.flat_machine.specs.Process.{hart_registers, is_live, IsWhole};
 ghost use Rattle.page_memory.specs.Memory.{byte_at, fetched};
 
 use crate::end::End;
 use decoded_pages::DecodedPages;
 use env_calls::Env;
+use machine_limits::MOST_HARTS;
 use page_memory::{FlatMemory, MemoryFault};
 use rv_exec::Regs;
+use std::alloc::{AllocError, Global};
 use std::marker::Model;
 
 /// A process on flat memory.
@@ -54,6 +56,21 @@ impl Model for FlatProcess {
 }
 
 impl FlatProcess {
+    /// A copy of the process, which goes on by itself. The input is shared.
+    pub fn try_clone(&self, alloc: Global) -> Result<Self, AllocError>
+        ensures { IfOk result (λ copy. copy ≡ self.now) }
+    {
+        let mut harts = Vec::with_capacity(alloc, MOST_HARTS)?;
+        harts.extend_from_slice(&self.harts)?;
+        Ok(FlatProcess {
+            harts,
+            env: self.env.try_clone(alloc)?,
+            memory: self.memory.try_clone()?,
+            decoded: self.decoded.try_clone(alloc)?,
+            end: self.end,
+        })
+    }
+
     /// A hart's registers, where the hart was started.
     pub fn regs(&self, hart: u32) -> Option<&Regs>
         ensures { option_copied result ≡ hart_registers hart self.now }

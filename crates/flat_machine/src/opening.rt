@@ -94,13 +94,13 @@ fn opening_memory(alloc: Global, pages: &[ImagePage]) -> Result<FlatMemory, Allo
     Ok(memory)
 }
 
-/// The memory of an image's pages.
+/// The memory of an image's pages, with room for the stack.
 fn image_memory(alloc: Global, pages: &[ImagePage]) -> Result<FlatMemory, AllocError>
     requires { ArePages pages.now }
     ensures { IfOk result (λ memory. memory ≡ unreserved
         (from_entries (map image_entry pages.now))) }
 {
-    let mut memory = FlatMemory::new(alloc)?;
+    let mut memory = FlatMemory::with_capacity(alloc, pages.len() as u32 + STACK_PAGES)?;
     for listed in pages {
         let page = listed.page.to_page(alloc)?;
         memory.map_page(listed.number, page)?;

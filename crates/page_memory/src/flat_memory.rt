@@ -40,12 +40,12 @@ impl Model for FlatMemory {
 }
 
 impl FlatMemory {
-    /// Memory with no page.
-    pub fn new(alloc: Global) -> Result<Self, AllocError>
+    /// Memory with no page, with room for so many.
+    pub fn with_capacity(alloc: Global, pages: u32) -> Result<Self, AllocError>
         ensures { IfOk result (λ memory. memory ≡ unreserved map.empty) }
     {
         Ok(FlatMemory {
-            pages: FlatPages::new(alloc)?,
+            pages: FlatPages::with_capacity(alloc, pages)?,
             reservations: Reservations::new(),
         })
     }

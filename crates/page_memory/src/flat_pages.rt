@@ -46,13 +46,13 @@ impl Model for FlatPages {
 }
 
 impl FlatPages {
-    /// No page.
-    pub fn new(alloc: Global) -> Result<Self, AllocError>
+    /// No page, with room for so many.
+    pub fn with_capacity(alloc: Global, pages: u32) -> Result<Self, AllocError>
         ensures { IfOk result (λ memory. memory ≡ map.empty) }
     {
         Ok(FlatPages {
             alloc,
-            pages: PageRow::new(alloc)?,
+            pages: PageRow::with_capacity(alloc, pages)?,
             recent: RecentPages::new(),
         })
     }

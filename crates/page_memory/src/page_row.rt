@@ -41,14 +41,14 @@ impl Model for PageRow {
 }
 
 impl PageRow {
-    /// No page.
+    /// No page, with room for so many.
     #[tactic(auto, unfolding(crate::specs::PageRow::pages_in))]
-    pub fn new(alloc: Global) -> Result<Self, AllocError>
+    pub fn with_capacity(alloc: Global, pages: u32) -> Result<Self, AllocError>
         ensures { IfOk result (λ row. row ≡ []) }
     {
         Ok(PageRow {
             rights: PageMap::new(alloc)?,
-            bytes: Vec::new(alloc),
+            bytes: Vec::with_capacity(alloc, pages as usize * PAGE_SIZE)?,
         })
     }
 

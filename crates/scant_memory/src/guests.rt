@@ -61,7 +61,7 @@ pub(crate) fn serves_calls(alloc: Global) -> Result<bool, AllocError> {
 
 /// Memory whose page 0x10 may be read and written.
 fn one_page(alloc: Global) -> Result<FlatMemory, AllocError> {
-    let mut memory = FlatMemory::new(alloc)?;
+    let mut memory = FlatMemory::with_capacity(alloc, 1)?;
     memory.map_page(0x10, Page::zeroed(alloc, Rights::READ_WRITE)?)?;
     Ok(memory)
 }

@@ -5,6 +5,7 @@ use Rattle.std.proofs.lemmas.Option.{none-some}
 use Rattle.rv_exec.specs.Registers.{Registers}
 use Rattle.flat_machine.specs.ByTurns.{by_turns, turn_after}
 use Rattle.flat_machine.specs.Process.{Process, hart_registers, is_live, may_step, flat_step}
+use Rattle.flat_machine.proofs.RunLaws.{both_are}
 use Rattle.flat_machine.proofs.StepLaws.{ended_lives, has_no_ending, is_live_in}
 use Rattle.debug_core.specs.Debugging.{first_moment}
 use Rattle.debug_core.specs.Limits.{lacks_none}
@@ -52,14 +53,11 @@ turn_more limit count first now next passes below step =
 pub turn_of : (now : Moment) (next : Process) → now.alone ≡ false → turn_next now.alone now.turn next ≡ turn_after now.turn next
 turn_of now next others = ap (λ alone. turn_next alone now.turn next) others
 
-pair_is : (hart turn : ℕ) (p q : Process) → ◌≡◌ {A = Option (ℕ × Process)} (Some (hart, p)) (Some (turn, q)) → (hart ≡ turn) × (p ≡ q)
-pair_is hart turn p q e = (ap (λ o. (unwrap_or {T = ℕ × Process} o (hart, p)).0) e, ap (λ o. (unwrap_or {T = ℕ × Process} o (hart, p)).1) e)
-
 passes_on : (limit more count turn : ℕ) (first now : Moment) (process : Process) → Passes lacks_none [] limit count first now → now.alone ≡ false → first.alone ≡ false → count + more ≤ limit
     → by_turns more now.turn now.process ≡ Some (turn, process) → PassesTo lacks_none [] limit (count + more) first turn process
 unfolding by_turns
 passes_on limit zero count turn first now process passes others alone few ran =
-    let parts = pair_is now.turn turn now.process process ran in
+    let parts = both_are now.turn turn now.process process ran in
     let here : now ≡ record { process = process; turn = turn; was = now.was; alone = first.alone } =
     λ i. record { process = parts.1 i; turn = parts.0 i; was = now.was; alone = (others ∙ sym alone) i } in
     let same : count ≡ count + 0 = omega arith in

@@ -78,7 +78,7 @@ module _ {T : Type 0} (shown : T → Process) (limits : T → Limit → Type 0) 
 
 -- ---- before anything was seen
 
-nothing_at : (address : ℕ) → byte_at (unreserved map.empty) address ≡ None
+pub nothing_at : (address : ℕ) → byte_at (unreserved map.empty) address ≡ None
 unfolding plain.byte_at
 nothing_at address = ap (option_map (λ (page : Page). slice_index page.bytes (page_offset address))) (map.get-empty nat_cmp (page_number address))
 

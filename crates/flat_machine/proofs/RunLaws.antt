@@ -53,7 +53,7 @@ pub by_turns_one : (hart : ℕ) (before after : Process) → flat_step hart befo
 unfolding by_turns
 by_turns_one hart before after step = ap (option_and_then (λ next. by_turns 0 (turn_after hart next) next)) step
 
-both_are : (hart turn : ℕ) (p q : Process) → ◌≡◌ {A = Option (ℕ × Process)} (Some (hart, p)) (Some (turn, q)) → (hart ≡ turn) × (p ≡ q)
+pub both_are : (hart turn : ℕ) (p q : Process) → ◌≡◌ {A = Option (ℕ × Process)} (Some (hart, p)) (Some (turn, q)) → (hart ≡ turn) × (p ≡ q)
 both_are hart turn p q e = (ap (λ o. (unwrap_or {T = ℕ × Process} o (hart, p)).0) e, ap (λ o. (unwrap_or {T = ℕ × Process} o (hart, p)).1) e)
 
 -- so many steps by turns, and so many more

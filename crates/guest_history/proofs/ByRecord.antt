@@ -22,6 +22,7 @@ use Rattle.debug_core.specs.declared.point.Point.TheVariants as point
 use Rattle.debug_core.specs.declared.point.Why.{Why}
 use Rattle.debug_core.specs.declared.point.Why.TheVariants.{Ended, Watch, Gone, Break, Absent}
 use Rattle.debug_core.specs.declared.point.Why.TheVariants as stop
+use Rattle.debug_core.proofs.Passing.{nothing_at}
 use Rattle.run_paths.specs.declared.path.Path.{Path}
 use Rattle.run_paths.specs.declared.path.Stretch.{Stretch}
 use Rattle.run_paths.specs.declared.program.Program.{Program}
@@ -125,10 +126,6 @@ unequal : (a b : ℕ) → ¬ (a ≡ b) → (a == b) ≡ false
 unequal a b differ = elim (eqb_tells a b) [ inl same ↦ absurd (differ same.1) | inr is ↦ is.0 ]
 
 -- ---- before anything was seen
-
-nothing_at : (address : ℕ) → byte_at (unreserved map.empty) address ≡ None
-unfolding plain.byte_at
-nothing_at address = ap (option_map (λ (page : Page). slice_index page.bytes (page_offset address))) (map.get-empty nat_cmp (page_number address))
 
 nothing_changed : (now : Memory) (address count : ℕ) → any_changed (bytes_from (unreserved map.empty) address count) (bytes_from now address count) ≡ false
 unfolding bytes_from any_changed

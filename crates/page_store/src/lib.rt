@@ -7,6 +7,7 @@
 mod answer;
 mod cleaning;
 mod job;
+mod moves;
 mod page;
 mod page_copy;
 mod reading;

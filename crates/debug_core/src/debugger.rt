@@ -198,9 +198,17 @@ impl<T: Target> Debugger<T> {
         }
     }
 
+    /// What it looks at.
+    pub fn target(&self) -> &T
+        ensures { result.now ≡ self.now.target }
+    {
+        &self.target
+    }
+
     /// Whose turn it is.
     pub fn turn(&self) -> u32
-        ensures { result ≡ self.now.turn }
+        ensures turn { result ≡ self.now.turn }
+        ensures live { is_live result (T.shown self.now.target) ≡ true }
     {
         self.turn
     }

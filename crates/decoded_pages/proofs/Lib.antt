@@ -1,5 +1,4 @@
 pub mod Standing
-pub mod Copies
 pub mod Done
 pub mod Listing
 pub mod Keeping

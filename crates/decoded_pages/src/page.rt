@@ -27,24 +27,6 @@ pub struct DecodedPage {
 }
 
 impl DecodedPage {
-    /// A copy of the page.
-    pub fn try_clone(&self, alloc: Global) -> Result<Self, AllocError>
-        ensures start { IfOk result (λ copy. copy.start ≡ self.now.start) }
-        ensures instructions { IfOk result (λ copy.
-            copy.instructions.items ≡ self.now.instructions.items) }
-        ensures ends { IfOk result (λ copy. copy.ends.items ≡ self.now.ends.items) }
-    {
-        let mut instructions = Vec::new(alloc);
-        instructions.extend_from_slice(&self.instructions)?;
-        let mut ends = Vec::new(alloc);
-        ends.extend_from_slice(&self.ends)?;
-        Ok(DecodedPage {
-            start: self.start,
-            instructions,
-            ends,
-        })
-    }
-
     /// The page of these bytes that starts there.
     pub fn of_bytes(alloc: Global, start: u32, bytes: &[u8]) -> Result<Self, AllocError>
         requires page { start % 4096 ≡ 0 }

@@ -28,18 +28,6 @@ impl DecodedPages {
         Ok(DecodedPages { pages })
     }
 
-    /// A copy of the decoded pages.
-    pub fn try_clone(&self, alloc: Global) -> Result<Self, AllocError>
-        ensures { IfOk result (λ copy. (memory : Memory) → ShowsAll self.now memory →
-            ShowsAll copy memory) }
-    {
-        let mut pages = Vec::with_capacity(alloc, self.pages.len())?;
-        'pages: for place in 0..self.pages.len() {
-            pages.push(copy_of(alloc, &self.pages[place])?)?;
-        }
-        Ok(DecodedPages { pages })
-    }
-
     /// Adds the page of a number, with these rights and bytes, if it may be run and not written and its place is free.
     pub fn add(
         &mut self,
@@ -86,18 +74,6 @@ impl DecodedPages {
             Some(page) if page.start == address / 4096 * 4096 => Some(page),
             _ => None,
         }
-    }
-}
-
-/// A copy of what has a place.
-#[tactic(auto, using(crate::proofs::Copies::shows_too))]
-fn copy_of(alloc: Global, slot: &Option<DecodedPage>) -> Result<Option<DecodedPage>, AllocError>
-    ensures { IfOk result (λ copy. (memory : Memory) →
-        IfSome slot.now (λ page. Shows page memory) → IfSome copy (λ page. Shows page memory)) }
-{
-    match slot {
-        Some(page) => Ok(Some(page.try_clone(alloc)?)),
-        None => Ok(None),
     }
 }
 

@@ -23,6 +23,7 @@ use rv_exec::Regs;
 use rv_isa::Reg;
 use shared_origins::SharedBytes;
 use std::alloc::{AllocError, Global};
+use std::sync::Arc;
 
 /// Where the first hart's stack pointer begins.
 const STACK_TOP: u32 = 0x7FFF_FFF0;
@@ -48,7 +49,7 @@ impl FlatProcess {
         let input = SharedBytes::new(alloc, input)?;
         let mapped = pages.len() as u32 + STACK_PAGES;
         let env = Env::new(alloc, input, first_break(pages), mapped);
-        let decoded = decoded_pages_of(alloc, pages)?;
+        let decoded = Arc::new(alloc, decoded_pages_of(alloc, pages)?)?;
         Ok(FlatProcess {
             harts,
             env,

@@ -12,6 +12,7 @@ use page_memory::{FlatMemory, MemoryFault};
 use rv_exec::Regs;
 use std::alloc::{AllocError, Global};
 use std::marker::Model;
+use std::sync::Arc;
 
 /// A process on flat memory.
 #[derive(Drop)]
@@ -20,12 +21,13 @@ pub struct FlatProcess {
     pub(crate) harts: Vec<Regs>,
     pub(crate) env: Env,
     pub(crate) memory: FlatMemory,
-    /// The pages of its memory that may be run and never written.
-    pub(crate) decoded: DecodedPages,
+    /// The pages of its memory that may be run and never written. Copies of the process share them.
+    pub(crate) decoded: Arc<DecodedPages>,
     pub(crate) end: Option<End>,
 }
 
 impl Model for FlatProcess {
+    ghost use Rattle.std.specs.Arc.{arc_value};
     ghost use Rattle.std.specs.Prelude.{◌≤◌, vec_capacity};
     ghost use Rattle.decoded_pages.specs.Code.{ShowsAll};
     ghost use Rattle.env_calls.specs.Environment.{most_harts};
@@ -51,12 +53,12 @@ impl Model for FlatProcess {
         ending = process.end;
       });
       roomy : most_harts ≤ vec_capacity process.harts;
-      shows : ShowsAll process.decoded process.memory;
+      shows : ShowsAll (arc_value process.decoded) process.memory;
     } };
 }
 
 impl FlatProcess {
-    /// A copy of the process, which goes on by itself. The input is shared.
+    /// A copy of the process, which goes on by itself. Input and decoded pages are shared.
     pub fn try_clone(&self, alloc: Global) -> Result<Self, AllocError>
         ensures { IfOk result (λ copy. copy ≡ self.now) }
     {
@@ -66,7 +68,7 @@ impl FlatProcess {
             harts,
             env: self.env.try_clone(alloc)?,
             memory: self.memory.try_clone()?,
-            decoded: self.decoded.try_clone(alloc)?,
+            decoded: Arc::try_clone(&self.decoded)?,
             end: self.end,
         })
     }
@@ -105,6 +107,13 @@ impl FlatProcess {
         ensures same { self.new ≡ self.old }
     {
         self.memory.fetch(address)
+    }
+
+    /// How many pages are mapped.
+    pub fn pages(&self) -> u32
+        ensures { result ≡ self.now.environment.pages }
+    {
+        self.env.pages()
     }
 
     /// What was written so far.

@@ -2,6 +2,7 @@ use Rattle.std.proofs.Common.{◌≡◌, Some, true, arith, ap, sym, ◌∙◌, 
 use Rattle.std.proofs.lemmas.Option.{slice_get-get_or}
 use Rattle.env_calls.specs.Step.{effect}
 use Rattle.env_calls.specs.Serving.{TakesMemory}
+use Rattle.std.specs.Arc.{arc_value}
 use Rattle.flat_machine.specs.Process.{Process, hart_registers, may_step}
 use Rattle.flat_machine.proofs.StepLaws.{started}
 use Rattle.flat_machine.proofs.SettlingLaws.{room_to_spawn, settled, settled_as, went_alike}
@@ -39,7 +40,7 @@ invariant_of-self c =
     record {
       whole = left.whole;
       roomy = (let same = c.settle.ensures.room in let before = c.self.invariant.roomy in omega arith);
-      shows = all_shown_on c.self.inside.decoded c.self.inside.memory c.finish_step.new.memory
+      shows = all_shown_on (arc_value c.self.inside.decoded) c.self.inside.memory c.finish_step.new.memory
           (stepped_keeps c.in-Ok.stepped (effect c.args.hart c.index_mut-regs.result.now c.self.inside.env c.self.inside.memory) c.finish_step.new.regs c.finish_step.new.env c.self.inside.memory c.finish_step.new.memory
           (effect_keeps c.args.hart c.index_mut-regs.result.now c.self.inside.env c.self.inside.memory) c.in-Ok.ensures.stepped c.in-Ok.ensures.memory_stays) c.self.invariant.shows;
     }

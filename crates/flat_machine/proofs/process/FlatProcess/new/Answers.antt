@@ -6,6 +6,7 @@ use Rattle.page_memory.specs.Memory.{Memory, unreserved}
 use Rattle.page_memory.specs.MemoryMap.{first_stack_pointer}
 use Rattle.rv_exec.specs.Registers.{Registers, cleared, with_register}
 use Rattle.env_calls.specs.Calls.{sp}
+use Rattle.decoded_pages.specs.Code.{ShowsAll}
 use Rattle.flat_machine.specs.Process.{opening, opening_pages, first_break}
 use Rattle.flat_machine.proofs.OpeningLaws.{image_page_at}
 use Rattle.flat_machine.proofs.StepLaws.{whole_alone}
@@ -16,8 +17,8 @@ invariant_of-result c =
     let harts : length c.push_reserved.new.self.items ≡ 1 = ap length c.push_reserved.ensures.items ∙ ap (λ l. length (l ++ c.first_registers.result ∷ [])) c.in_ok-harts.ensures.items in
     record {
       whole = whole_alone _ harts (ap (λ (e : Environment). e.live) c.new-env.ensures);
-      shows = c.in_ok-decoded.ensures c.in_ok-memory.memory
-          (λ i d within. ap (λ (m : Memory). get m.pages (slice_index_or c.pages-pages.result.now i d).number) c.in_ok-memory.ensures ∙ image_page_at c.pages-pages.result.now i d (subst ArePages (sym c.pages-pages.ensures.pages) c.pages-pages.ensures.ordered) within);
+      shows = subst (λ d. ShowsAll d c.in_ok-memory.memory) (sym c.in_ok-decoded.ensures.ok) (c.in_ok-decoded_pages_of.ensures c.in_ok-memory.memory
+          (λ i d within. ap (λ (m : Memory). get m.pages (slice_index_or c.pages-pages.result.now i d).number) c.in_ok-memory.ensures ∙ image_page_at c.pages-pages.result.now i d (subst ArePages (sym c.pages-pages.ensures.pages) c.pages-pages.ensures.ordered) within));
       roomy = (let same = c.push_reserved.ensures.capacity in let room = c.in_ok-harts.ensures.exact in omega arith);
     }
 

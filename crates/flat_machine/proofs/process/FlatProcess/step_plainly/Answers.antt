@@ -1,5 +1,6 @@
 -- The laws of a plain run, for the process that is seen.
 use Rattle.std.proofs.Common.{◌≡◌, ◌-◌, true, replicate, arith, ap, sym, ◌∙◌, length-set}
+use Rattle.std.specs.Arc.{arc_value}
 use Rattle.flat_machine.specs.Process.{Process, may_step, flat_step, flat_run}
 use Rattle.flat_machine.specs.ByTurns.{by_turns, turn_after}
 use Rattle.decoded_pages.proofs.Runs.{all_shown_on}
@@ -53,6 +54,6 @@ invariant_of-self c =
         some = before.some;
       };
       roomy = c.self.invariant.roomy;
-      shows = all_shown_on c.self.inside.decoded c.self.inside.memory run.new.memory
+      shows = all_shown_on (arc_value c.self.inside.decoded) c.self.inside.memory run.new.memory
           (plain_keeps c.args.hart (c.args.most - run.result.left) c.index_mut-regs.result.now c.self.inside.memory run.new.regs run.new.memory run.ensures.ran) c.self.invariant.shows;
     }

@@ -1,6 +1,6 @@
 //! Runs a process along a path.
 
-ghost use Rattle.std.specs.Prelude.{◌≡◌, Some, true, OnOk, replicate};
+ghost use Rattle.std.specs.Prelude.{◌≡◌, Some, true, IfOk, OnOk, replicate};
 ghost use Rattle.flat_machine.specs.ByTurns.{first_turn, turn_after};
 ghost use Rattle.flat_machine.specs.Process.{flat_run, is_live};
 ghost use Rattle.run_paths.specs.Paths.{along, first_place, hart_of, step_of, steps_of};
@@ -10,7 +10,7 @@ ghost use Rattle.run_paths.specs.declared.path.Whose.TheVariants as whose;
 use crate::fault::RunFault;
 use crate::path::{Stretch, Whose, hart_of};
 use flat_machine::{FlatProcess, Schedule, StepRefusal};
-use std::alloc::Global;
+use std::alloc::{AllocError, Global};
 
 /// So many steps of a hart are taken one by one: a schedule costs as much as some hundreds of them.
 const FEW: u64 = 512;
@@ -33,6 +33,16 @@ impl Place {
     {
         let turn = first_turn(&process);
         Place { turn, process }
+    }
+
+    /// A copy, which goes on by itself.
+    pub fn try_clone(&self, alloc: Global) -> Result<Self, AllocError>
+        ensures { IfOk result (λ copy. copy ≡ self.now) }
+    {
+        Ok(Place {
+            turn: self.turn,
+            process: self.process.try_clone(alloc)?,
+        })
     }
 
     /// Takes the steps of a path.

@@ -11,6 +11,7 @@ use crate::fingerprint::Fingerprint;
 use crate::record::{Closing, Record};
 use flat_machine::{End, Turn};
 use hex::encode_to_slice;
+use itoa::Buffer;
 use std::io;
 use std::io::Write;
 
@@ -42,9 +43,11 @@ fn write_turns<W: Write>(turns: &[Turn], out: &mut W) -> io::Result<()>
 fn write_turn<W: Write>(turn: Turn, out: &mut W) -> io::Result<()>
     ensures { OnOk result (Appends (W.contents out.old) (W.contents out.new) (ended (turn_text turn))) }
 {
-    let hart = turn.hart;
-    let count = turn.count;
-    writeln!(out, "{hart} {count}")
+    let mut number = Buffer::new();
+    out.write_all(number.format(turn.hart).as_bytes())?;
+    out.write_all(b" ")?;
+    out.write_all(number.format(turn.count).as_bytes())?;
+    out.write_all(b"\n")
 }
 
 fn write_closing<W: Write>(closing: &Closing, out: &mut W) -> io::Result<()>

@@ -1399,6 +1399,22 @@ pub mod sha2 {
     }
 }
 
+/// Decimal digits.
+pub mod itoa {
+    pub struct Buffer(String);
+
+    impl Buffer {
+        pub fn new() -> Buffer {
+            Buffer(String::new())
+        }
+
+        pub fn format<I: std::fmt::Display>(&mut self, number: I) -> &str {
+            self.0 = number.to_string();
+            &self.0
+        }
+    }
+}
+
 /// Hexadecimal digits.
 pub mod hex {
     #[derive(Clone, Copy, Debug, PartialEq, Eq)]

@@ -1,5 +1,5 @@
 -- A run by a record stops for the first reason: turn by turn.
-use Rattle.std.proofs.Common.{◌≡◌, ◌∙◌, ℕ, zero, suc, ◌+◌, ◌-◌, ◌<◌, ◌≤◌, Bool, true, false, List, [], ◌∷◌, Option, Some, None, is_some, option_map, option_and_then, unwrap_or, IfSome, cond, nat_cmp, slice_index, refl, sym, ap, subst, arith, inl, inr}
+use Rattle.std.proofs.Common.{◌≡◌, ◌∙◌, ℕ, zero, suc, ◌+◌, ◌-◌, ◌<◌, ◌≤◌, Bool, true, false, List, [], ◌∷◌, Option, Some, None, is_some, option_map, option_and_then, unwrap_or, IfSome, cond, refl, sym, ap, subst, arith, inl, inr}
 use Rattle.std.specs.Prelude.{◌==◌, ◌||◌, if◌then◌else◌}
 use Rattle.std.proofs.lemmas.Bool.{cases_lt}
 use Rattle.std.proofs.lemmas.Bool.Decides.{eqb_tells}
@@ -7,10 +7,7 @@ use Rattle.std.proofs.lemmas.Option.{none-some}
 use Rattle.std.specs.FinMap as map
 use Rattle.std.specs.List.{position_from}
 use Rattle.std.specs.Option.{option_or}
-use Rattle.page_memory.specs.Pages.{Page}
-use Rattle.page_memory.specs.Pages as plain
 use Rattle.page_memory.specs.Memory.{Memory, byte_at, unreserved}
-use Rattle.page_memory.specs.Words.{page_number, page_offset}
 use Rattle.flat_machine.specs.Process.{Process, flat_step, hart_registers, is_live}
 use Rattle.debug_core.specs.Debugging.{lone_moment}
 use Rattle.debug_core.specs.Points.{any_changed, bytes_from, has_changed, is_hit, point_at}
@@ -32,7 +29,8 @@ use Rattle.run_paths.specs.declared.running.Place.{Place}
 use Rattle.run_paths.specs.Paths.{along, steps_of, whose_at}
 use Rattle.run_paths.proofs.Along.{along_behind, whose_here, whose_past}
 use Rattle.guest_history.specs.Going.{lacks, memory_before, memory_of, shows, stops_by, watch_of, why_last, why_next, EndsTurn, GoesTurn}
-use Rattle.guest_history.specs.Histories.{beginning, place_of, IsNext, Stands}
+use Rattle.guest_history.specs.Checkpoints.{beginning}
+use Rattle.guest_history.specs.Histories.{place_of, IsNext, Stands}
 use Rattle.guest_history.specs.declared.history.History.{History}
 use Rattle.guest_history.proofs.MovesOn.{alone_to, before_next, none_done, place_left, some_moment, stopped_at}
 
@@ -44,10 +42,10 @@ shape ended hit live at last =
     if ended then Some Ended
     else option_or (option_map Watch hit) (if live then option_or (option_map Break at) (if last then Some stop.Limit else None) else Some Gone)
 
-is_why : (a b : Why) → ◌≡◌ {A = Option Why} (Some a) (Some b) → a ≡ b
+pub is_why : (a b : Why) → ◌≡◌ {A = Option Why} (Some a) (Some b) → a ≡ b
 is_why a b e = ap (λ (o : Option Why). unwrap_or o a) e
 
-calm : (ended : Bool) (hit : Option ℕ) (live : Bool) (at : Option ℕ) (last : Bool) (other : Option ℕ) (later : Bool) → shape ended hit live at last ≡ None → other ≡ None → later ≡ false → shape ended other live at later ≡ None
+pub calm : (ended : Bool) (hit : Option ℕ) (live : Bool) (at : Option ℕ) (last : Bool) (other : Option ℕ) (later : Bool) → shape ended hit live at last ≡ None → other ≡ None → later ≡ false → shape ended other live at later ≡ None
 calm true hit live at last other later e none more = absurd (none-some Ended (sym e))
 calm false (Some n) live at last other later e none more = absurd (none-some (Watch n) (sym e))
 calm false None false at last other later e none more = absurd (none-some Gone (sym e))
@@ -55,13 +53,13 @@ calm false None true (Some n) last other later e none more = absurd (none-some (
 calm false None true None true other later e none more = absurd (none-some stop.Limit (sym e))
 calm false None true None false other later e none more = rw (none, more) refl
 
-unhit : (ended : Bool) (hit : Option ℕ) (live : Bool) (at : Option ℕ) (last : Bool) → shape ended hit live at last ≡ None → hit ≡ None
+pub unhit : (ended : Bool) (hit : Option ℕ) (live : Bool) (at : Option ℕ) (last : Bool) → shape ended hit live at last ≡ None → hit ≡ None
 unhit true hit live at last e = absurd (none-some Ended (sym e))
 unhit false (Some n) live at last e = absurd (none-some (Watch n) (sym e))
 unhit false None live at last e = refl
 
 -- where a turn may end, the process has not ended and no watch is hit
-quiet : (ended : Bool) (hit : Option ℕ) (live : Bool) (at : Option ℕ) (last : Bool) (why : Why) → shape ended hit live at last ≡ Some why → EndsTurn why → (ended ≡ false) × (hit ≡ None)
+pub quiet : (ended : Bool) (hit : Option ℕ) (live : Bool) (at : Option ℕ) (last : Bool) (why : Why) → shape ended hit live at last ≡ Some why → EndsTurn why → (ended ≡ false) × (hit ≡ None)
 quiet true hit live at last why e ends = elim (subst EndsTurn (sym (is_why Ended why e)) ends) [ ]
 quiet false (Some n) live at last why e ends = elim (subst EndsTurn (sym (is_why (Watch n) why e)) ends) [ ]
 quiet false None live at last why e ends = (refl, refl)
@@ -97,7 +95,7 @@ has_ended false None true (Some n) last e = elim (subst IsEnded (sym (is_why (Br
 has_ended false None true None true e = elim (subst IsEnded (sym (is_why stop.Limit Ended e)) tt) [ ]
 has_ended false None true None false e = absurd (none-some Ended e)
 
-none_absent : (ended : Bool) (hit : Option ℕ) (live : Bool) (at : Option ℕ) (last : Bool) → shape ended hit live at last ≡ Some Absent → ⊥
+pub none_absent : (ended : Bool) (hit : Option ℕ) (live : Bool) (at : Option ℕ) (last : Bool) → shape ended hit live at last ≡ Some Absent → ⊥
 none_absent true hit live at last e = elim (subst IsEnded (is_why Ended Absent e) tt) [ ]
 none_absent false (Some m) live at last e = subst (IsWatch m) (is_why (Watch m) Absent e) refl
 none_absent false None false at last e = subst EndsTurn (is_why Gone Absent e) tt
@@ -122,7 +120,7 @@ next_hit : (points : List (Option Point)) (limit count : ℕ) (was : Memory) (pr
 next_hit points limit count was process None n e hit = rw (e, hit) refl
 next_hit points limit count was process (Some whose) n e hit = rw (e, hit) refl
 
-unequal : (a b : ℕ) → ¬ (a ≡ b) → (a == b) ≡ false
+pub unequal : (a b : ℕ) → ¬ (a ≡ b) → (a == b) ≡ false
 unequal a b differ = elim (eqb_tells a b) [ inl same ↦ absurd (differ same.1) | inr is ↦ is.0 ]
 
 -- ---- before anything was seen
@@ -143,7 +141,7 @@ never : {A : Type 0} (test : A → Bool) (k : ℕ) (points : List A) → ((p : A
 never test k [] none = refl
 never test k (p ∷ points) none = ap (λ b. cond b (Some k) (position_from test (k + 1) points)) (none p) ∙ never test (k + 1) points none
 
-nothing_hit : (points : List (Option Point)) (now : Process) → watch_of points (unreserved map.empty) now ≡ None
+pub nothing_hit : (points : List (Option Point)) (now : Process) → watch_of points (unreserved map.empty) now ≡ None
 nothing_hit points now = never (is_hit (unreserved map.empty) now.memory) 0 points (nothing_is_hit now.memory)
 
 -- ---- the moments of a turn
@@ -156,7 +154,7 @@ next_was p m e = by_step (flat_step p.turn p.process) refl e
     by_step (Some next) is f = ap (λ (x : Moment). x.was) (sym (some_moment (record { process = next; turn = turn_next p.alone p.turn next; was = p.process.memory; alone = p.alone }) m f))
 
 -- each moment before one that there is
-there : (j d : ℕ) (first now : Moment) → moment_after (j + d) first ≡ Some now → (m : Moment) × (moment_after j first ≡ Some m)
+pub there : (j d : ℕ) (first now : Moment) → moment_after (j + d) first ≡ Some now → (m : Moment) × (moment_after j first ≡ Some m)
 there j zero first now e = let same : j ≡ j + 0 = omega arith in (now, ap (λ n. moment_after n first) same ∙ e)
 there j (suc d) first now e =
     let more : suc (j + d) ≡ j + suc d = omega arith in
@@ -194,7 +192,7 @@ stops_here points path first from limit n p o led whose =
     ap (option_and_then (λ (at : Place). why_next points limit n (memory_before path first from n) at.process (whose_at path (from + n)))) led
     ∙ ap (why_next points limit n (memory_before path first from n) p.process) whose
 
-reason_is : (points : List (Option Point)) (limit count hart : ℕ) (m : Moment) → m.turn ≡ hart
+pub reason_is : (points : List (Option Point)) (limit count hart : ℕ) (m : Moment) → m.turn ≡ hart
     → reason points limit count m ≡ shape (is_some m.process.ending) (watch_of points m.was m.process) (is_live hart m.process) (break_at points (hart_registers hart m.process)) (count == limit)
 reason_is points limit count hart m e =
     ap (λ (h : ℕ). shape (is_some m.process.ending) (watch_of points m.was m.process) (is_live h m.process) (break_at points (hart_registers h m.process)) (count == limit)) e
@@ -309,7 +307,7 @@ unseen_none (Some (point.Break address)) why seen = seen
 unseen_none (Some (point.Watch address count)) why seen = seen
 
 -- on flat memory there is a reason wherever a debugger stops
-reason_at : (full : Type 0) (why : Why) (points : List (Option Point)) (limit count : ℕ) (now : Moment) (process : Process) → (full → ⊥) → StopsFor shows lacks full why points limit count now process → reason points limit count now ≡ Some why
+pub reason_at : (full : Type 0) (why : Why) (points : List (Option Point)) (limit count : ℕ) (now : Moment) (process : Process) → (full → ⊥) → StopsFor shows lacks full why points limit count now process → reason points limit count now ≡ Some why
 reason_at full Ended points limit count now process room s = elim s [ inl h ↦ h.1 | inr h ↦ absurd (room h.1.1) ]
 reason_at full (Watch number) points limit count now process room s = s.1
 reason_at full Gone points limit count now process room s = s.1

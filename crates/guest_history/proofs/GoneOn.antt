@@ -1,5 +1,5 @@
 -- Where a debugger stands after steps forward.
-use Rattle.std.proofs.Common.{◌≡◌, ℕ, ◌+◌, ◌-◌, ◌<◌, ◌≤◌, List, [], ◌∷◌, length, take, slice_index_or, Some, refl, sym, ap, ◌∙◌, arith}
+use Rattle.std.proofs.Common.{◌≡◌, ℕ, ◌+◌, ◌-◌, ◌<◌, ◌≤◌, List, [], ◌∷◌, length, take, slice_index_or, Some, refl, sym, ap, subst, ◌∙◌, arith}
 use Rattle.flat_machine.specs.Process.{Process}
 use Rattle.debug_core.specs.Debugging.{DebuggerValue}
 use Rattle.run_paths.specs.declared.path.Stretch.{Stretch}
@@ -10,7 +10,8 @@ use Rattle.guest_history.specs.declared.history.History.{History}
 use Rattle.run_paths.specs.Paths.{along, hart_of, part_of, step_by, step_of, steps_of, whose_at}
 use Rattle.run_paths.specs.declared.path.Path.{Path}
 use Rattle.run_paths.specs.Extending.{IsCounted}
-use Rattle.guest_history.specs.Histories.{beginning, place_of, IsNext, Moves, Stands}
+use Rattle.guest_history.specs.Checkpoints.{beginning}
+use Rattle.guest_history.specs.Histories.{place_of, IsNext, Moves, Stands}
 use Rattle.run_paths.proofs.Along.{along_none, along_more, along_behind, whose_here, no_more, whose_in, steps_more}
 use Rattle.run_paths.proofs.Parts.{whose_part, steps_part}
 
@@ -28,7 +29,7 @@ moves_some old debugger whose count stands moved points = record {
   moved = moved;
   points = points ∙ stands.points;
   ranged = stands.ranged;
-  waits = stands.waits;
+  kept = stands.kept;
 }
 
 one_step : (whose : Whose) (at next : Place) (hart : ℕ) → hart_of whose at.turn ≡ hart → step_of hart at ≡ Some next → along (record { whose = whose; count = 1 } ∷ []) 1 at ≡ Some next
@@ -47,33 +48,48 @@ stands_still old debugger stands same points = record {
   led = stands.led ∙ ap Some (sym same);
   points = points ∙ stands.points;
   ranged = stands.ranged;
-  waits = stands.waits;
+  kept = stands.kept;
 }
 
 -- on the path that is known
-pub stands_turn : (old : History) (debugger : DebuggerValue Process) (stretch : Stretch) (hart steps : ℕ) → Stands old → IsNext old.path old.done stretch → stretch.whose ≡ Hart hart → steps ≤ stretch.count
-    → along (record { whose = Hart hart; count = steps } ∷ []) steps (place_of old.debugger) ≡ Some (place_of debugger) → debugger.points ≡ old.debugger.points → Stands (with_debugger old debugger (old.done + steps))
-stands_turn old debugger stretch hart steps stands next whose few moved points =
+pub stands_next : (old : History) (debugger : DebuggerValue Process) (whose : Whose) (limit steps : ℕ) → Stands old → IsNext old.path old.done (record { whose = whose; count = limit }) → steps ≤ limit
+    → along (record { whose = whose; count = steps } ∷ []) steps (place_of old.debugger) ≡ Some (place_of debugger) → debugger.points ≡ old.debugger.points → Stands (with_debugger old debugger (old.done + steps))
+stands_next old debugger whose limit steps stands next few moved points =
     let within = next.within in
     record {
       counted = stands.counted;
       within = omega (arith, within, few);
       led =
-          sym (along_behind (record { whose = Hart hart; count = steps } ∷ []) old.path.stretches.items old.done steps (beginning old.program) (place_of old.debugger) stands.led
-          (λ i h. whose_here (record { whose = Hart hart; count = steps }) [] i h ∙ ap Some (sym whose) ∙ sym (next.next i (omega (arith, h, few)))))
+          sym (along_behind (record { whose = whose; count = steps } ∷ []) old.path.stretches.items old.done steps (beginning old.program) (place_of old.debugger) stands.led
+          (λ i h. whose_here (record { whose = whose; count = steps }) [] i h ∙ sym (next.next i (omega (arith, h, few)))))
           ∙ moved;
       points = points ∙ stands.points;
       ranged = stands.ranged;
-      waits = stands.waits;
+      kept = stands.kept;
     }
+
+-- the first steps of a stretch that is next
+pub next_some : (path : Path) (done most : ℕ) (stretch : Stretch) (whose : Whose) → IsNext path done stretch → stretch.whose ≡ whose → most ≤ stretch.count → IsNext path done (record { whose = whose; count = most })
+next_some path done most stretch whose next is few =
+    let within = next.within in
+    record { within = omega (arith, within, few); next = λ i h. next.next i (omega (arith, h, few)) ∙ ap Some is }
+
+-- the steps after some of those that are next
+pub next_rest : (old now : Path) (first done taken most limit : ℕ) (whose : Whose) → now ≡ old → IsNext old first (record { whose = whose; count = limit }) → done ≡ first + taken → taken + most ≤ limit → IsNext now done (record { whose = whose; count = most })
+next_rest old now first done taken most limit whose same next is few =
+    let within = next.within in
+    subst (λ (p : Path). IsNext p done (record { whose = whose; count = most })) (sym same) (record {
+      within = omega (arith, within, few, is);
+      next = λ i h. let place : done + i ≡ first + (taken + i) = omega (arith, is) in ap (whose_at old.stretches.items) place ∙ next.next (taken + i) (omega (arith, h, few));
+    })
 
 pub stands_one : (old : History) (debugger : DebuggerValue Process) (hart : ℕ) → Stands old → whose_at old.path.stretches.items old.done ≡ Some (Hart hart) → old.done < old.path.total
     → step_of hart (place_of old.debugger) ≡ Some (place_of debugger) → debugger.points ≡ old.debugger.points → Stands (with_debugger old debugger (old.done + 1))
 stands_one old debugger hart stands is within stepped points =
-    stands_turn old debugger (record { whose = Hart hart; count = 1 }) hart 1 stands (record {
+    stands_next old debugger (Hart hart) 1 1 stands (record {
       within = omega (arith, within);
       next = λ i h. let first : old.done + i ≡ old.done = omega (arith, h) in ap (whose_at old.path.stretches.items) first ∙ is;
-    }) refl (omega arith) (one_step (Hart hart) (place_of old.debugger) (place_of debugger) hart refl stepped) points
+    }) (omega arith) (one_step (Hart hart) (place_of old.debugger) (place_of debugger) hart refl stepped) points
 
 -- ---- the next turn of a record
 

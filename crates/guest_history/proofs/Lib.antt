@@ -7,5 +7,6 @@ pub mod SameRuns
 pub mod CutLines
 pub mod Conversed
 pub mod ByRecord
+pub mod InPieces
 pub mod OwnLines
 pub mod Gone

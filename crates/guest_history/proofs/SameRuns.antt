@@ -20,5 +20,5 @@ same_then old mid new before behind = record {
   path_is = λ yes. behind.path_is (before.recorded ∙ yes) ∙ before.path_is yes;
 }
 
-pub same_keeps : (old new : History) → new ≡ record old { waiting = new.waiting } → IsSameRun old new
+pub same_keeps : (old new : History) → new ≡ record old { checkpoints = new.checkpoints } → IsSameRun old new
 same_keeps old new keeps = record { program_is = ap (λ (h : History). h.program) keeps; recorded = ap (λ (h : History). h.is_recorded) keeps; path_is = λ yes. ap (λ (h : History). h.path) keeps }

@@ -20,7 +20,7 @@ use Rattle.run_paths.specs.declared.running.Place.{Place}
 use Rattle.run_paths.specs.Paths.{along, hart_of, whose_at}
 use Rattle.guest_history.specs.declared.forward.Stop.{Stop}
 use Rattle.guest_history.specs.declared.history.History.{History}
-use Rattle.guest_history.specs.Histories.{beginning}
+use Rattle.guest_history.specs.Checkpoints.{beginning}
 
 -- a flat process shows itself, and lacks nothing
 abbrev pub shows : Process → Process

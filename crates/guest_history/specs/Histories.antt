@@ -1,6 +1,6 @@
 -- A debugger that knows its steps: where it stands, and where it goes back to.
-use Rattle.std.specs.Prelude.{◌≡◌, ℕ, ◌+◌, ◌-◌, ◌<◌, ◌≤◌, Bool, true, false, List, [], ◌∷◌, Option, Some, None, IfSome}
-use Rattle.flat_machine.specs.Process.{Process, opening}
+use Rattle.std.specs.Prelude.{◌≡◌, ℕ, ◌+◌, ◌-◌, ◌<◌, ◌≤◌, Bool, true, false, List, [], ◌∷◌, Option, Some, None}
+use Rattle.flat_machine.specs.Process.{Process}
 use Rattle.debug_core.specs.Debugging.{DebuggerValue}
 use Rattle.debug_core.specs.Points.{ArePoints}
 use Rattle.debug_core.specs.declared.point.Why.{Why}
@@ -12,27 +12,18 @@ use Rattle.run_paths.specs.declared.path.Whose.TheVariants.{Hart}
 use Rattle.run_paths.specs.declared.path.Path.{Path}
 use Rattle.run_paths.specs.declared.running.Place.{Place}
 use Rattle.run_paths.specs.declared.program.Program.{Program}
-use Rattle.guest_history.specs.declared.waiting.Waiting.{Waiting}
+use Rattle.guest_history.specs.declared.checkpoints.Checkpoint.{Checkpoint}
 use Rattle.guest_history.specs.declared.history.History.{History}
 use Rattle.guest_history.specs.declared.forward.Stepped.{Stepped}
 use Rattle.guest_history.specs.declared.forward.Stepped.TheVariants.{Ran, Refused, PastRecord, OtherHart}
 use Rattle.run_paths.specs.Extending.{IsCounted}
 use Rattle.run_paths.specs.Meeting.{met_at}
-use Rattle.run_paths.specs.Paths.{along, first_place, step_of, whose_at, HasTurn}
-
--- where a program begins
-abbrev pub beginning : Program → Place
-beginning program = first_place (opening program.image program.input.items)
+use Rattle.run_paths.specs.Paths.{along, step_of, whose_at, HasTurn}
+use Rattle.guest_history.specs.Checkpoints.{beginning, AreKept}
 
 -- the process of a debugger, and whose turn it has
 abbrev pub place_of : DebuggerValue Process → Place
 place_of debugger = record { turn = debugger.turn; process = debugger.target }
-
--- a process that waits is behind so many of the known steps
-pub record IsWaiting (program : Program) (path : List Stretch) (total : ℕ) (waiting : Waiting) : Type 0 where
-  pub led : along path waiting.done (beginning program) ≡ Some waiting.place
-  pub live : HasTurn waiting.place
-  pub within : waiting.done ≤ total
 
 -- The debugger shows what the first steps of the path come to, as many as were taken; and it has the points that are kept.
 pub record Stands (history : History) : Type 0 where
@@ -41,7 +32,7 @@ pub record Stands (history : History) : Type 0 where
   pub led : along history.path.stretches.items history.done (beginning history.program) ≡ Some (place_of history.debugger)
   pub points : history.debugger.points ≡ history.points
   pub ranged : ArePoints history.points
-  pub waits : IfSome history.waiting (IsWaiting history.program history.path.stretches.items history.path.total)
+  pub kept : AreKept history.program history.path.stretches.items history.path.total history.checkpoints
 
 -- it stands before the first step of a program on a path
 pub record Begins (program : Program) (path : List Stretch) (is_recorded : Bool) (history : History) : Type 0 where
@@ -51,9 +42,9 @@ pub record Begins (program : Program) (path : List Stretch) (is_recorded : Bool)
   pub recorded : history.is_recorded ≡ is_recorded
   pub none : history.done ≡ 0
 
--- nothing has changed, but that a process may wait no more
+-- nothing has changed but the checkpoints
 abbrev pub Keeps : History → History → Type 0
-Keeps old new = new ≡ record old { waiting = new.waiting }
+Keeps old new = new ≡ record old { checkpoints = new.checkpoints }
 
 -- It stands behind so many of the same steps, and has the same points.
 pub record GoesBackTo (done : ℕ) (old new : History) : Type 0 where
@@ -80,7 +71,7 @@ StopsBefore old (Some why) new =
     (new.done < old.done) × ((stops_at old new.done ≡ Some why) × ((i : ℕ) → new.done < i → i < old.done → stops_at old i ≡ None))
 
 -- a process behind no more than so many of the known steps
-pub record IsNear (history : History) (step : ℕ) (near : Waiting) : Type 0 where
+pub record IsNear (history : History) (step : ℕ) (near : Checkpoint) : Type 0 where
   pub led : along history.path.stretches.items near.done (beginning history.program) ≡ Some near.place
   pub live : HasTurn near.place
   pub before : near.done ≤ step
@@ -94,7 +85,7 @@ pub record Moves (history : History) (whose : Whose) (count : ℕ) : Type 0 wher
   pub moved : along (record { whose = whose; count = count } ∷ []) count at ≡ Some (place_of history.debugger)
   pub points : history.debugger.points ≡ history.points
   pub ranged : ArePoints history.points
-  pub waits : IfSome history.waiting (IsWaiting history.program history.path.stretches.items history.path.total)
+  pub kept : AreKept history.program history.path.stretches.items history.path.total history.checkpoints
 
 -- the next steps of a path are those of a stretch
 pub record IsNext (path : Path) (done : ℕ) (stretch : Stretch) : Type 0 where

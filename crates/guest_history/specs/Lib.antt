@@ -1,7 +1,9 @@
+pub mod Checkpoints
 pub mod Histories
 pub mod Filling
 pub mod HistoryLines
 pub mod HistoryText
 pub mod Going
+pub mod Runs
 pub mod Answered
 pub mod Conversation

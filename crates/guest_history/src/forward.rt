@@ -8,7 +8,7 @@ ghost use Rattle.run_paths.specs.declared.path.Whose.TheVariants as whose;
 ghost use Rattle.run_paths.specs.Paths.{hart_of};
 
 use crate::history::History;
-use crate::moving::{go_alone, go_by_turns, step_once};
+use crate::moving::step_once;
 use debug_core::{DebugRefusal, Why};
 use run_paths::{RunFault, Stretch, Whose, part_of, whose_at};
 use std::alloc::Global;
@@ -54,7 +54,7 @@ impl History {
         ensures stepped { IfOk result (λ stepped. HasStepped hart self.old stepped self.new) }
     {
         if self.is_recorded {
-            return Ok(self.step_by_record(hart));
+            return Ok(self.step_by_record(alloc, hart));
         }
         if hart == self.debugger.turn() {
             self.step_on(alloc, hart, Whose::ByTurns)
@@ -79,6 +79,7 @@ impl History {
         match step_once(&mut self.debugger, hart) {
             Ok(()) => {
                 self.note(alloc, whose, 1)?;
+                self.keep(alloc);
                 Ok(Stepped::Ran)
             }
             Err(refusal) => Ok(Stepped::Refused(refusal)),
@@ -87,7 +88,7 @@ impl History {
 
     /// Takes the next step of the record, if it is a hart's.
     #[tactic(auto, using(crate::proofs::GoneOn::stands_one, crate::proofs::GoneOn::stands_still))]
-    fn step_by_record(&mut self, hart: u32) -> Stepped
+    fn step_by_record(&mut self, alloc: Global, hart: u32) -> Stepped
         requires stands { Stands self.old }
         requires recorded { self.old.is_recorded ≡ true }
         ensures stands { Stands self.new }
@@ -105,6 +106,7 @@ impl History {
         match step_once(&mut self.debugger, hart) {
             Ok(()) => {
                 self.done += 1;
+                self.keep(alloc);
                 Stepped::Ran
             }
             Err(refusal) => Stepped::Refused(refusal),
@@ -112,7 +114,7 @@ impl History {
     }
 
     /// Takes steps until there is a reason to stop.
-    #[tactic(auto, using(crate::proofs::GoneOn::moves_some, crate::proofs::SameRuns::same_free, crate::proofs::SameRuns::same_path, crate::proofs::Gone::by_turns))]
+    #[tactic(auto, using(crate::proofs::SameRuns::same_path, crate::proofs::Gone::by_turns))]
     pub(crate) fn go(&mut self, alloc: Global, limit: u64) -> Result<Stop, RunFault>
         requires stands { Stands self.old }
         ensures stands { OnOk result (Stands self.new) }
@@ -123,17 +125,16 @@ impl History {
             return self.go_by_record(alloc, limit);
         }
         let most = limit.min(u64::MAX - self.done);
-        let (why, steps, last) = go_by_turns(&mut self.debugger, most)?;
-        self.note(alloc, Whose::ByTurns, steps)?;
+        let ran = self.run(alloc, Whose::ByTurns, most)?;
         Ok(Stop {
-            why: Some(why),
-            last,
-            steps,
+            why: Some(ran.why),
+            last: ran.last,
+            steps: ran.steps,
         })
     }
 
     /// Takes steps of a hart until there is a reason to stop; `None` where it is not live.
-    #[tactic(auto, using(crate::proofs::GoneOn::moves_some, crate::proofs::GoneOn::stands_still, crate::proofs::SameRuns::same_free, crate::proofs::Gone::alone))]
+    #[tactic(auto, using(crate::proofs::Gone::alone))]
     pub(crate) fn go_hart(
         &mut self,
         alloc: Global,
@@ -153,18 +154,18 @@ impl History {
             return Ok(None);
         }
         let most = limit.min(u64::MAX - self.done);
-        let (why, steps) = go_alone(&mut self.debugger, hart, most)?;
-        self.note(alloc, Whose::Hart(hart), steps)?;
+        let ran = self.run(alloc, Whose::Hart(hart), most)?;
         Ok(Some(Stop {
-            why: Some(why),
+            why: Some(ran.why),
             last: hart,
-            steps,
+            steps: ran.steps,
         }))
     }
 
     /// Takes steps of the record until there is a reason to stop.
     fn go_by_record(&mut self, alloc: Global, limit: u64) -> Result<Stop, RunFault>
         requires stands { Stands self.old }
+        requires recorded { self.old.is_recorded ≡ true }
         ensures stands { OnOk result (Stands self.new) }
         ensures program { OnOk result (self.new.program ≡ self.old.program) }
         ensures recorded { OnOk result (self.new.is_recorded ≡ self.old.is_recorded) }
@@ -178,7 +179,7 @@ impl History {
         let mut left = limit;
         let mut taken: u64 = 0;
         'stretches: for stretch in ahead.as_slice() {
-            let (why, steps) = self.go_turn(*stretch, left)?;
+            let (why, steps) = self.go_turn(alloc, *stretch, left)?;
             if steps > 0 {
                 last = hart_of_turn(*stretch);
             }
@@ -211,15 +212,21 @@ impl History {
     }
 
     /// Takes steps of a turn, up to so many, until there is a reason to stop.
-    #[tactic(auto, using(crate::proofs::GoneOn::stands_turn, crate::proofs::Gone::turn_gone))]
-    fn go_turn(&mut self, stretch: Stretch, limit: u64) -> Result<(Why, u64), RunFault>
+    #[tactic(auto, using(crate::proofs::Gone::turn_gone))]
+    fn go_turn(
+        &mut self,
+        alloc: Global,
+        stretch: Stretch,
+        limit: u64,
+    ) -> Result<(Why, u64), RunFault>
         requires stands { Stands self.old }
+        requires recorded { self.old.is_recorded ≡ true }
         requires next { IsNext self.old.path self.old.done stretch }
         ensures stands { OnOk result (Stands self.new) }
         ensures done { IfOk result (λ stop. self.new.done ≡ self.old.done + stop.1) }
-        ensures path { self.new.path ≡ self.old.path }
-        ensures program { self.new.program ≡ self.old.program }
-        ensures recorded { self.new.is_recorded ≡ self.old.is_recorded }
+        ensures path { OnOk result (self.new.path ≡ self.old.path) }
+        ensures program { OnOk result (self.new.program ≡ self.old.program) }
+        ensures recorded { OnOk result (self.new.is_recorded ≡ self.old.is_recorded) }
         ensures within { IfOk result (λ stop. stop.1 ≤ limit) }
         ensures few { IfOk result (λ stop. stop.1 ≤ stretch.count) }
         ensures points { OnOk result (self.new.debugger.points ≡ self.old.debugger.points) }
@@ -231,9 +238,8 @@ impl History {
         };
         let room = self.path.total - self.done;
         let most = limit.min(stretch.count).min(room);
-        let (why, steps) = go_alone(&mut self.debugger, hart, most)?;
-        self.done += steps;
-        Ok((why, steps))
+        let ran = self.run(alloc, Whose::Hart(hart), most)?;
+        Ok((ran.why, ran.steps))
     }
 }
 

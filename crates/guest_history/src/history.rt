@@ -4,18 +4,19 @@ ghost use Rattle.std.specs.Prelude.{◌≡◌, ◌≤◌, ◌<◌, ◌-◌, ◌+
 ghost use Rattle.run_paths.specs.Extending.{IsCounted};
 ghost use Rattle.run_paths.specs.Meeting.{shifted, LastMet};
 ghost use Rattle.run_paths.specs.Paths.{along, hart_of, path_of, step_of, HasTurn};
-ghost use Rattle.guest_history.specs.Histories.{beginning, place_of, stops_at, Begins, IsNear, Keeps, Moves};
+ghost use Rattle.guest_history.specs.Checkpoints.{beginning};
+ghost use Rattle.guest_history.specs.Histories.{place_of, stops_at, Begins, IsNear, Keeps, Moves};
 ghost use Rattle.guest_history.specs.Histories.{GoesBackBy, GoesBackTo, Stands, StopsBefore};
 
+use crate::checkpoints::{Checkpoint, Checkpoints};
 use crate::points::give_points;
-use crate::waiting::Waiting;
 use debug_core::{DebugStep, Debugger, MOST_POINTS, Why};
 use flat_machine::{FlatProcess, Turn};
 use run_paths::{
     Met, Path, Place, Points, Program, RunFault, Whose, count_of, hart_of, last_met, part_of,
     path_of, whose_at,
 };
-use std::alloc::Global;
+use std::alloc::{AllocError, Global};
 
 /// How many steps `back_go` looks at first.
 const FIRST_LOOK: u64 = 1 << 20;
@@ -36,7 +37,7 @@ pub struct History {
     /// Those of the debugger.
     pub points: Points,
     pub debugger: Debugger<FlatProcess>,
-    pub waiting: Option<Waiting>,
+    pub checkpoints: Checkpoints,
 }
 
 impl History {
@@ -80,7 +81,7 @@ impl History {
             done: 0,
             points: [None; MOST_POINTS],
             debugger,
-            waiting: None,
+            checkpoints: Checkpoints::new(alloc),
         })
     }
 
@@ -116,11 +117,9 @@ impl History {
     }
 
     /// The last place before this one where a point would have stopped it, but for the beginning.
-    fn last_met(&mut self, alloc: Global) -> Result<Option<Met>, RunFault>
-        requires stands { Stands self.old }
-        ensures stands { Stands self.new }
-        ensures keeps { Keeps self.old self.new }
-        ensures last { IfOk result (LastMet (stops_at self.old) 0 self.old.done) }
+    fn last_met(&self, alloc: Global) -> Result<Option<Met>, RunFault>
+        requires stands { Stands self.now }
+        ensures last { IfOk result (LastMet (stops_at self.now) 0 self.now.done) }
     {
         let mut end = self.done;
         let mut width = FIRST_LOOK;
@@ -136,19 +135,17 @@ impl History {
         Ok(None)
     }
 
-    /// The same behind so many steps, and before so many.
+    /// The same after so many steps, and before so many.
     fn last_met_between(
-        &mut self,
+        &self,
         alloc: Global,
         from: u64,
         end: u64,
     ) -> Result<Option<Met>, RunFault>
-        requires stands { Stands self.old }
-        requires within { end ≤ self.old.path.total }
+        requires stands { Stands self.now }
+        requires within { end ≤ self.now.path.total }
         requires before { from < end }
-        ensures stands { Stands self.new }
-        ensures keeps { Keeps self.old self.new }
-        ensures last { IfOk result (LastMet (stops_at self.old) from end) }
+        ensures last { IfOk result (LastMet (stops_at self.now) from end) }
     {
         let place = self.place_at(alloc, from)?;
         let path = self.path.stretches.as_slice();
@@ -171,13 +168,11 @@ impl History {
     }
 
     /// A debugger with no points behind so many of the known steps.
-    fn debugger_at(&mut self, alloc: Global, step: u64) -> Result<Debugger<FlatProcess>, RunFault>
-        requires stands { Stands self.old }
-        requires known { step ≤ self.old.path.total }
-        ensures keeps { Keeps self.old self.new }
-        ensures stands { Stands self.new }
-        ensures led { IfOk result (λ debugger. along self.old.path.stretches.items step
-            (beginning self.old.program) ≡ Some (place_of debugger)) }
+    fn debugger_at(&self, alloc: Global, step: u64) -> Result<Debugger<FlatProcess>, RunFault>
+        requires stands { Stands self.now }
+        requires known { step ≤ self.now.path.total }
+        ensures led { IfOk result (λ debugger. along self.now.path.stretches.items step
+            (beginning self.now.program) ≡ Some (place_of debugger)) }
         ensures points { IfOk result (λ debugger. debugger.points ≡ replicate 32 None) }
     {
         if step == 0 {
@@ -192,13 +187,11 @@ impl History {
     }
 
     /// The process behind so many of the known steps.
-    pub(crate) fn place_at(&mut self, alloc: Global, step: u64) -> Result<Place, RunFault>
-        requires stands { Stands self.old }
-        requires known { step ≤ self.old.path.total }
-        ensures keeps { Keeps self.old self.new }
-        ensures stands { Stands self.new }
-        ensures led { IfOk result (λ place. along self.old.path.stretches.items step
-            (beginning self.old.program) ≡ Some place) }
+    fn place_at(&self, alloc: Global, step: u64) -> Result<Place, RunFault>
+        requires stands { Stands self.now }
+        requires known { step ≤ self.now.path.total }
+        ensures led { IfOk result (λ place. along self.now.path.stretches.items step
+            (beginning self.now.program) ≡ Some place) }
         ensures live { IfOk result (λ place. HasTurn place) }
     {
         let near = self.near(alloc, step)?;
@@ -209,21 +202,43 @@ impl History {
         Ok(place)
     }
 
-    /// The process that waits, where it is behind no more steps, else that at the beginning.
-    fn near(&mut self, alloc: Global, step: u64) -> Result<Waiting, RunFault>
-        requires stands { Stands self.old }
-        ensures keeps { Keeps self.old self.new }
-        ensures stands { Stands self.new }
-        ensures near { IfOk result (λ near. IsNear self.old step near) }
+    /// The last checkpoint that is after no more steps, else the beginning.
+    fn near(&self, alloc: Global, step: u64) -> Result<Checkpoint, RunFault>
+        requires stands { Stands self.now }
+        ensures near { IfOk result (λ near. IsNear self.now step near) }
     {
-        if let Some(waiting) = self.waiting.take() {
-            if waiting.done <= step {
-                return Ok(waiting);
-            }
+        match self.checkpoints.number_before(step) {
+            Some(number) => Ok(self.checkpoints.copies[number].try_clone(alloc)?),
+            None => Ok(Checkpoint {
+                place: Place::first(self.program.begin(alloc)?),
+                done: 0,
+            }),
         }
-        Ok(Waiting {
-            place: Place::first(self.program.begin(alloc)?),
-            done: 0,
+    }
+
+    /// Keeps a checkpoint here, if one is due. Where memory is wanting, there is none.
+    pub(crate) fn keep(&mut self, alloc: Global)
+        requires stands { Stands self.old }
+        ensures stands { Stands self.new }
+        ensures keeps { Keeps self.old self.new }
+    {
+        if !self.checkpoints.is_due(self.done) {
+            return;
+        }
+        if let Ok(place) = self.place_here(alloc) {
+            let done = self.done;
+            let _ = self.checkpoints.add(Checkpoint { place, done });
+        }
+    }
+
+    /// A copy of the process that is shown.
+    fn place_here(&self, alloc: Global) -> Result<Place, AllocError>
+        ensures place { IfOk result (λ place. place ≡ place_of self.now.debugger) }
+        ensures live { IfOk result (λ place. HasTurn place) }
+    {
+        Ok(Place {
+            turn: self.debugger.turn(),
+            process: self.debugger.target().try_clone(alloc)?,
         })
     }
 
@@ -239,7 +254,7 @@ impl History {
         ensures recorded { self.new.is_recorded ≡ self.old.is_recorded }
     {
         let is_kept = self.path.extend(alloc, self.done, whose, count)?;
-        self.waiting = where_kept(is_kept, self.waiting.take());
+        self.checkpoints.follow(is_kept, self.done);
         self.done += count;
         Ok(())
     }
@@ -269,13 +284,6 @@ fn wider(width: u64) -> u64
     } else {
         width * 16
     }
-}
-
-/// The process that waits, where no known step was forgotten.
-fn where_kept(is_kept: bool, waiting: Option<Waiting>) -> Option<Waiting>
-    ensures { IfSome result (λ kept. (is_kept ≡ true) × (waiting ≡ Some kept)) }
-{
-    if is_kept { waiting } else { None }
 }
 
 /// The debugger of a process after the next step.

@@ -2,17 +2,17 @@
 #![tactic(auto)]
 
 mod answers;
+mod checkpoints;
 mod conversation;
 mod fault;
 mod forward;
 mod history;
 mod lines;
 mod moving;
+mod pieces;
 mod points;
-mod preparing;
 mod reply;
 mod turn;
-mod waiting;
 
 pub use conversation::converse_back;
 pub use fault::HistoryFault;

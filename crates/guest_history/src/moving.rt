@@ -5,17 +5,52 @@ ghost use Rattle.debug_core.specs.Debugging.{first_moment, lone_moment, turn_lef
 ghost use Rattle.debug_core.specs.Stops.{last_hart, Stops};
 ghost use Rattle.guest_history.specs.Going.{lacks, shows};
 ghost use Rattle.guest_history.specs.Histories.{place_of};
+ghost use Rattle.guest_history.specs.Runs.{Ran};
 ghost use Rattle.run_paths.specs.Paths.{along, step_of};
 ghost use Rattle.run_paths.specs.declared.path.Whose.TheVariants as whose;
 
 use debug_core::{DebugRefusal, DebugStep, Debugger, Why};
 use flat_machine::FlatProcess;
-use run_paths::RunFault;
+use run_paths::{RunFault, Whose};
 use std::alloc::AllocError;
+
+/// How a run came to its end: why, after how many steps, and the hart of the last one.
+#[derive(Clone, Copy, Debug, PartialEq, Eq)]
+pub(crate) struct Run {
+    pub(crate) why: Why,
+    pub(crate) steps: u64,
+    pub(crate) last: u32,
+}
+
+/// Takes such steps until there is a reason to stop.
+pub(crate) fn run_on(
+    debugger: &mut Debugger<FlatProcess>,
+    whose: Whose,
+    limit: u64,
+) -> Result<Run, RunFault>
+    ensures moved { IfOk result (λ run. along (record { whose = whose; count = run.steps } ∷ [])
+        run.steps (place_of debugger.old) ≡ Some (place_of debugger.new)) }
+    ensures ran { IfOk result (λ run. Ran whose limit debugger.old run debugger.new) }
+{
+    match whose {
+        Whose::ByTurns => {
+            let (why, steps, last) = go_by_turns(debugger, limit)?;
+            Ok(Run { why, steps, last })
+        }
+        Whose::Hart(hart) => {
+            let (why, steps) = go_alone(debugger, hart, limit)?;
+            Ok(Run {
+                why,
+                steps,
+                last: hart,
+            })
+        }
+    }
+}
 
 /// Steps the harts by turns, until there is a reason to stop. Reports the reason, how many steps were done, and the hart of the last one.
 #[tactic(auto, using(crate::proofs::MovesOn::moved_by_turns, crate::proofs::MovesOn::within_limit))]
-pub(crate) fn go_by_turns(
+fn go_by_turns(
     debugger: &mut Debugger<FlatProcess>,
     limit: u64,
 ) -> Result<(Why, u64, u32), RunFault>
@@ -37,7 +72,7 @@ pub(crate) fn go_by_turns(
 
 /// Steps a hart that is live, until there is a reason to stop. Reports the reason, and how many steps were done.
 #[tactic(auto, using(crate::proofs::MovesOn::moved_alone, crate::proofs::MovesOn::within_limit))]
-pub(crate) fn go_alone(
+fn go_alone(
     debugger: &mut Debugger<FlatProcess>,
     hart: u32,
     limit: u64,

@@ -25,8 +25,8 @@ pub(crate) enum Turn {
     Bad,
 }
 
-/// Does what a line asks for, and writes the reply at once. Then a process is prepared for the way back.
-#[tactic(auto, using(crate::proofs::SameRuns::same_path, crate::proofs::SameRuns::same_then, crate::proofs::SameRuns::same_keeps, crate::proofs::Conversed::replied, crate::proofs::Conversed::quit_line))]
+/// Does what a line asks for, and writes the reply at once.
+#[tactic(auto, using(crate::proofs::SameRuns::same_path, crate::proofs::SameRuns::same_then, crate::proofs::Conversed::replied, crate::proofs::Conversed::quit_line))]
 pub(crate) fn take_turn<O: Write>(
     alloc: Global,
     history: &mut History,
@@ -50,10 +50,7 @@ pub(crate) fn take_turn<O: Write>(
         return Ok(Turn::Quits);
     };
     match say(&reply, out) {
-        Ok(()) => {
-            history.prepare(alloc);
-            Ok(Turn::GoesOn)
-        }
+        Ok(()) => Ok(Turn::GoesOn),
         Err(_) => Err(HistoryFault::CannotWrite),
     }
 }

@@ -5,7 +5,8 @@ use Rattle.run_paths.specs.declared.path.Stretch.{Stretch}
 use Rattle.run_paths.specs.declared.path.Whose.TheVariants.{ByTurns}
 use Rattle.guest_history.specs.Histories.{IsNext}
 use Rattle.run_paths.specs.Paths.{steps_of, part_of}
-use Rattle.guest_history.specs.Histories.{beginning, place_of}
+use Rattle.guest_history.specs.Checkpoints.{beginning}
+use Rattle.guest_history.specs.Histories.{place_of}
 use Rattle.std.proofs.lemmas.Option.{none-some}
 use Rattle.run_paths.proofs.Parts.{count_all, steps_part}
 use Rattle.guest_history.proofs.ByRecord.{at_end_of, goes_on, led_by, none_before, none_passed, stops_there}

@@ -1,5 +1,6 @@
 use Rattle.std.proofs.Common.{◌≡◌, ◌+◌, take}
-use Rattle.guest_history.specs.Histories.{beginning, Stands}
+use Rattle.guest_history.specs.Checkpoints.{beginning}
+use Rattle.guest_history.specs.Histories.{Stands}
 use Rattle.run_paths.specs.Paths.{steps_of}
 use Rattle.guest_history.proofs.ByRecord.{Passed}
 use Rattle.guest_history.proofs.history.History.go_by_record.Given as goal

@@ -1,10 +1,10 @@
 use Rattle.std.proofs.Common.{arith}
-use Rattle.guest_history.proofs.GoneOn.{stands_turn}
+use Rattle.run_paths.specs.declared.path.Whose.TheVariants.{Hart}
+use Rattle.guest_history.proofs.GoneOn.{next_some}
 use Rattle.guest_history.proofs.history.History.go_turn.Goals as goal
 
-pub returns-clause-stands : goal.returns-clause-stands
-returns-clause-stands c =
-    let less = c.in_ok-why.ensures.within in
+pub run-requires-clause-next : goal.run-requires-clause-next
+run-requires-clause-next c = λ recorded.
     let one = c.min.ensures in
     let other = c.min-most.ensures in
-    stands_turn c.args.self.now c.go_alone.new.debugger c.args.stretch c.in-Hart.hart c.in_ok-why.steps c.requires.stands c.requires.next c.in-Hart.is (omega (arith, less, one, other)) c.in_ok-why.ensures.moved c.in_ok-why.ensures.points
+    next_some c.args.self.now.path c.args.self.now.done c.min-most.result c.args.stretch (Hart c.in-Hart.hart) c.requires.next c.in-Hart.is (omega (arith, one, other))

@@ -1,8 +1,8 @@
-use Rattle.std.proofs.Common.{refl, arith}
+use Rattle.std.proofs.Common.{arith}
 use Rattle.guest_history.proofs.history.History.last_met.Goals as goal
 
 pub looks-init : goal.looks-init
-looks-init c = record { stands = c.requires.stands; keeps = refl; end = omega arith; some = omega arith; clear = λ i low h. absurd (omega (arith, low, h)) }
+looks-init c = record { end = omega arith; some = omega arith; clear = λ i low h. absurd (omega (arith, low, h)) }
 
 pub looks-smaller : goal.looks-smaller
 looks-smaller c =

@@ -1,13 +1,10 @@
 use Rattle.std.proofs.Common.{◌≤◌, ◌<◌}
-use Rattle.guest_history.specs.Histories.{Keeps, Stands}
 use Rattle.guest_history.proofs.Stopping.{IsClear}
 use Rattle.guest_history.proofs.history.History.last_met.Given as goal
 
--- Nothing has changed but which process waits, and nothing was met behind the places that were looked at.
+-- nothing was met after the places that were looked at
 abbrev pub invariant-looks : goal.invariant-looks
 invariant-looks l = record {
-  stands : Stands l.self;
-  keeps : Keeps l.fn.self l.self;
   end : l.end ≤ l.fn.self.done;
   some : 0 < l.width;
   clear : IsClear l.fn.self l.end;

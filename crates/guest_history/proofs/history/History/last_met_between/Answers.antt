@@ -1,7 +1,7 @@
 use Rattle.std.proofs.Common.{◌≡◌, ℕ, ◌≤◌, ◌∙◌, ◌+◌, ◌-◌, ◌<◌, ap, subst, sym, arith, List, Option, IfSome, Some, None, ◌^◌}
 use Rattle.debug_core.specs.declared.point.Point.{Point}
-use Rattle.guest_history.specs.declared.history.History.{History}
-use Rattle.guest_history.specs.Histories.{beginning, stops_at}
+use Rattle.guest_history.specs.Checkpoints.{beginning}
+use Rattle.guest_history.specs.Histories.{stops_at}
 use Rattle.run_paths.specs.declared.path.Stretch.{Stretch}
 use Rattle.run_paths.specs.declared.running.Place.{Place}
 use Rattle.run_paths.specs.declared.searching.Met.{Met}
@@ -32,19 +32,19 @@ last_met-requires c =
     let old = c.args.self.now in
     let is : c.as_slice.result.now ≡ part_of old.path.stretches.items c.args.from (c.args.end - c.args.from) =
     c.as_slice.ensures.value ∙ c.in_ok-part.ensures
-    ∙ ap (λ (l : List Stretch). part_of l c.args.from (c.args.end - c.args.from)) (c.as_slice-path.ensures.value ∙ ap (λ (h : History). h.path.stretches.items) c.in_ok-place.ensures.keeps) in
+    ∙ ap (λ (l : List Stretch). part_of l c.args.from (c.args.end - c.args.from)) c.as_slice-path.ensures.value in
     let counted = c.requires.stands.counted in
     let within = c.requires.within in
     let size = long old.path.stretches.items c.as_slice.result.now c.args.from c.args.end c.requires.before (omega (arith, counted, within)) is in
     let fits = c.ranges.end.fits in
-    record { small = omega (arith, size, fits); points = c.in_ok-place.ensures.stands.ranged }
+    record { small = omega (arith, size, fits); points = c.requires.stands.ranged }
 
 pub behind-requires : goal.behind-requires
 behind-requires c =
     let old = c.args.self.now in
     let is : c.as_slice.result.now ≡ part_of old.path.stretches.items c.args.from (c.args.end - c.args.from) =
     c.as_slice.ensures.value ∙ c.in_ok-part.ensures
-    ∙ ap (λ (l : List Stretch). part_of l c.args.from (c.args.end - c.args.from)) (c.as_slice-path.ensures.value ∙ ap (λ (h : History). h.path.stretches.items) c.in_ok-place.ensures.keeps) in
+    ∙ ap (λ (l : List Stretch). part_of l c.args.from (c.args.end - c.args.from)) c.as_slice-path.ensures.value in
     let counted = c.requires.stands.counted in
     let within = c.requires.within in
     let before = c.requires.before in
@@ -52,15 +52,15 @@ behind-requires c =
     let fits = c.ranges.end.fits in
     record { small = small_enough c.in_ok-met.met (steps_of c.as_slice.result.now) c.args.from (last_within _ 0 (steps_of c.as_slice.result.now) c.in_ok-met.met c.in_ok-met.ensures) (omega (arith, size, fits, before)) }
 
-pub returns-clause-last : goal.returns-clause-last
-returns-clause-last c =
+pub returns : goal.returns
+returns c =
     let old = c.args.self.now in
     let is : c.as_slice.result.now ≡ part_of old.path.stretches.items c.args.from (c.args.end - c.args.from) =
     c.as_slice.ensures.value ∙ c.in_ok-part.ensures
-    ∙ ap (λ (l : List Stretch). part_of l c.args.from (c.args.end - c.args.from)) (c.as_slice-path.ensures.value ∙ ap (λ (h : History). h.path.stretches.items) c.in_ok-place.ensures.keeps) in
+    ∙ ap (λ (l : List Stretch). part_of l c.args.from (c.args.end - c.args.from)) c.as_slice-path.ensures.value in
     let counted = c.requires.stands.counted in
     let within = c.requires.within in
     let last : LastMet (met_at old.points c.as_slice.result.now c.in_ok-place.place) 0 (steps_of c.as_slice.result.now) c.in_ok-met.met =
-    subst (λ (h : History). LastMet (met_at h.points c.as_slice.result.now c.in_ok-place.place) 0 (steps_of c.as_slice.result.now) c.in_ok-met.met) c.in_ok-place.ensures.keeps c.in_ok-met.ensures in
-    subst (LastMet (stops_at old) c.args.from c.args.end) (sym c.behind.ensures)
-    (found old.points old.path.stretches.items c.as_slice.result.now (beginning old.program) c.in_ok-place.place c.args.from c.args.end c.in_ok-met.met c.requires.before (omega (arith, counted, within)) is c.in_ok-place.ensures.led last)
+    c.in_ok-met.ensures in
+    record { last = subst (LastMet (stops_at old) c.args.from c.args.end) (sym c.behind.ensures)
+    (found old.points old.path.stretches.items c.as_slice.result.now (beginning old.program) c.in_ok-place.place c.args.from c.args.end c.in_ok-met.met c.requires.before (omega (arith, counted, within)) is c.in_ok-place.ensures.led last) }

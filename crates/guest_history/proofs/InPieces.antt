@@ -176,7 +176,7 @@ module _ (points : List (Option Point)) (limit count piece k turn : ℕ) (proces
   before_all i h = elim (cases_lt i count) [
     | inl below ↦ passed.passes.before i below
     | inr above ↦ (let is : count + (i - count) ≡ i = omega (arith, above) in
-      subst (λ n. IfSome (moment_after n first) (λ now. (reason points limit n now ≡ None) × (¬ IsFullAt (λ limit. ⊥) n first now))) is (before_in (i - count) (omega (arith, above, h))))
+        subst (λ n. IfSome (moment_after n first) (λ now. (reason points limit n now ≡ None) × (¬ IsFullAt (λ limit. ⊥) n first now))) is (before_in (i - count) (omega (arith, above, h))))
   ]
 
   ends_at : (j : ℕ) → moment_after j begin ≡ Some now → EndsAt points count j first now

@@ -136,12 +136,7 @@ impl History {
     }
 
     /// The same after so many steps, and before so many.
-    fn last_met_between(
-        &self,
-        alloc: Global,
-        from: u64,
-        end: u64,
-    ) -> Result<Option<Met>, RunFault>
+    fn last_met_between(&self, alloc: Global, from: u64, end: u64) -> Result<Option<Met>, RunFault>
         requires stands { Stands self.now }
         requires within { end ≤ self.now.path.total }
         requires before { from < end }

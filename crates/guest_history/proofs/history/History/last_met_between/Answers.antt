@@ -62,5 +62,7 @@ returns c =
     let within = c.requires.within in
     let last : LastMet (met_at old.points c.as_slice.result.now c.in_ok-place.place) 0 (steps_of c.as_slice.result.now) c.in_ok-met.met =
     c.in_ok-met.ensures in
-    record { last = subst (LastMet (stops_at old) c.args.from c.args.end) (sym c.behind.ensures)
-    (found old.points old.path.stretches.items c.as_slice.result.now (beginning old.program) c.in_ok-place.place c.args.from c.args.end c.in_ok-met.met c.requires.before (omega (arith, counted, within)) is c.in_ok-place.ensures.led last) }
+    record {
+      last = subst (LastMet (stops_at old) c.args.from c.args.end) (sym c.behind.ensures)
+          (found old.points old.path.stretches.items c.as_slice.result.now (beginning old.program) c.in_ok-place.place c.args.from c.args.end c.in_ok-met.met c.requires.before (omega (arith, counted, within)) is c.in_ok-place.ensures.led last);
+    }

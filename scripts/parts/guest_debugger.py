@@ -1,7 +1,7 @@
 """Drives `guest debug` behind a debugger for people or for gdb: its lines and replies as calls, and what the guest writes as it comes.
 
-What the guest writes is seen at its calls of the machine: each is a point of its own, at which the registers tell what is written. Back it goes
-by another `guest debug`, which runs from the beginning along the turns that the run has had: guest_turns.py does that.
+What the guest writes is seen at its calls of the machine: each is a point of its own, at which the registers tell what is written. `guest debug`
+goes back by itself. What points a run met is looked up by another one, which runs along the same turns: guest_turns.py does that.
 """
 import os
 import re
@@ -20,9 +20,9 @@ USER_POINTS = 8    # as many are left to the user at least
 MOST_WATCHED = 16
 PIECE = 500000    # steps, between which the caller may interrupt
 SINGLE_PIECE = 64    # the same of steps that are taken one by one
-NEAR = 500000    # steps that are looked at first for a point that was met; twice as far before a place wait those that may go back next
+NEAR = 500000    # steps that are looked at first for a point that was met; twice as far before a place waits one that may look next
 WIDER = 32    # so much longer is the next stretch that is looked at
-SPARE = 2    # so many wait: one that may look, and one that goes where the look leads
+MOST_BACK = 2**32 - 1    # steps of one line
 MOST_HARTS = 64    # steps of which the harts are asked at once
 TRAPS = {
     0: "a jump to an address that is no multiple of 4", 2: "a word that is no instruction of this machine", 3: "an ebreak",
@@ -383,13 +383,13 @@ class Guest:
         """Whether the program stands at the end of a record, and has not ended as that tells."""
         return self.is_at_end() and self.ending() != self.record.ending
 
-    def back(self, count, interrupted=never):
+    def back(self, count):
         """To the state so many steps before."""
         if not self.goes_back:
             raise Refused(0, WITH_FRAMES)
         if count > self.steps:
             raise Refused(0, f"there are only {self.steps} steps before this place" if self.steps else "this is the beginning: there is no step before it")
-        return self.seek(self.steps - count, "back", interrupted)
+        return self.seek(self.steps - count, "back")
 
     def back_to_stop(self, undoes=False, interrupted=never):
         """To the last place before this one at which a point stops a run, or to the beginning. With `undoes` that of a watch is the place
@@ -401,10 +401,9 @@ class Guest:
         except Interrupted:
             return Stop("interrupt", self.turn)
         if met is None:
-            return self.seek(0, "begin", interrupted)
-        stop = self.seek(met.steps - (undoes and met.why == "watch"), met.why, interrupted)
-        if stop.why != "interrupt":
-            stop.hart, stop.address = met.hart, met.address
+            return self.seek(0, "begin")
+        stop = self.seek(met.steps - (undoes and met.why == "watch"), met.why)
+        stop.hart, stop.address = met.hart, met.address
         return stop
 
     def back_of(self, hart, interrupted=never):
@@ -416,32 +415,21 @@ class Guest:
         except Interrupted:
             return Stop("interrupt", self.turn)
         before = self.watched()
-        stop = self.seek(step or 0, "begin" if step is None else "back", interrupted)
+        stop = self.seek(step or 0, "begin" if step is None else "back")
         stop.hart = self.turn if step is None else hart
         changed = next((it[1] for it, now in self.watched().items() if now != before[it]), None)
         return stop if changed is None or stop.why != "back" else Stop("watch", hart, 0, changed)
 
-    def seek(self, step, why, interrupted):
+    def seek(self, step, why):
         """To an earlier state of this run, which is the present one from then on."""
         if step < self.steps:
-            try:
-                there = self.arrived(step, interrupted)
-            except Interrupted:
-                return Stop("interrupt", self.turn)
-            self.run.close()
-            self.run, self.steps, self.has_ended = there, step, False
-            self.set_points()
+            while step < self.steps:
+                count = min(self.steps - step, MOST_BACK)
+                self.ask(f"back {count}")
+                self.steps -= count
+            self.has_ended = False
             self.piece(0)    # whose turn it is
-            self.set_out_spare(step, SPARE)
         return Stop(why, self.next_hart(self.turn))
-
-    def set_points(self):
-        """The points, in a process that has none."""
-        self.addresses = {}
-        for address in self.calls:
-            self.calls[address] = self.add(f"break {address}")
-        for point in self.points:
-            self.points[point] = self.add(" ".join(map(str, point)))
 
     def keep_spare(self, holds):
         for it in self.spare:
@@ -449,24 +437,19 @@ class Guest:
                 it.close()
         self.spare = [it for it in self.spare if holds(it)]
 
-    def arrived(self, step, interrupted, looks=False):
-        """One that has gone to a step: of those that wait the nearest before it, or a new one. Where it only looks, another one goes with it."""
+    def arrived(self, step, interrupted):
+        """One that has gone to a step to look: of those that wait the nearest before it, or a new one. Another one goes with it, and waits."""
         self.keep_spare(lambda it: it.goal <= step)
         nearest = max(self.spare, key=lambda it: it.goal, default=None)
         self.keep_spare(lambda it: it is nearest or step - it.goal <= WIDER * NEAR)
         going = nearest or Driven(self.again)
         self.spare = [it for it in self.spare if it is not going]
         going.set_out(self.turns, step)
-        if looks:
-            self.set_out_spare(step, 1)
-        going.arrive(interrupted)
-        return going
-
-    def set_out_spare(self, step, count):
-        """Those set out that are missing among so many which wait before a step."""
-        while step > 2 * NEAR and len(self.spare) < count:
+        if step > 2 * NEAR and not self.spare:
             self.spare.append(Driven(self.again))
             self.spare[-1].set_out(self.turns, step - 2 * NEAR)
+        going.arrive(interrupted)
+        return going
 
     def last_met(self, end, interrupted):
         """The last point that the run met up to a step. Looks at the last stretch before it first, then at longer ones; of one with many
@@ -501,7 +484,7 @@ class Guest:
     def look_from(self, start, before, interrupted):
         if before:
             before.driven.close()
-        return Look(self.arrived(start, interrupted, looks=True), self.turns, self.points, self.steps)
+        return Look(self.arrived(start, interrupted), self.turns, self.points, self.steps)
 
     def step_before(self, hart, interrupted):
         """The last step of a hart before this place, or None. By turns each hart that is live has one among so many as there are harts."""
@@ -518,7 +501,7 @@ class Guest:
         """The hart of a step by turns, of which there are some from a first one on. Those before it are kept too."""
         if step not in self.known_harts:
             begin = max(first, step + 1 - MOST_HARTS)
-            look = self.arrived(begin, interrupted, looks=True)
+            look = self.arrived(begin, interrupted)
             harts = [Told(it).last for it in look.asks(["run 1"] * (step + 1 - begin))]
             look.close()
             self.known_harts.update(zip(range(begin, step + 1), harts))

@@ -1,1 +1,2 @@
 pub mod GuestStatus
+pub mod Words

@@ -1,6 +1,7 @@
 //! How a guest ended: as a status, and in words.
 
-ghost use Rattle.std.specs.Prelude.{◌≡◌};
+ghost use Rattle.std.specs.Prelude.{◌≡◌, ℕ};
+ghost use Rattle.flat_machine.specs.declared.end.End.TheVariants.{Exited};
 ghost use Rattle.guest_io.specs.GuestStatus.{guest_status};
 
 use flat_machine::{End, KillCause};
@@ -21,7 +22,9 @@ pub fn status_of(end: End) -> u8
 }
 
 /// Tells how a guest ended that did not end itself. Where that can't be written, the status alone tells it.
-pub fn tell_end<E: Write>(end: End, steps: u64, err: &mut E) {
+pub fn tell_end<E: Write>(end: End, steps: u64, err: &mut E)
+    ensures quiet { (status : ℕ) → end ≡ Exited status → err.new ≡ err.old }
+{
     let words = match end {
         End::Exited(_) => return,
         End::Trapped { cause, .. } => words_of_trap(cause),

@@ -1,5 +1,8 @@
 //! Words that are no request.
 
+ghost use Rattle.std.specs.Prelude.{◌≡◌};
+ghost use Rattle.guest_io.specs.declared.usage_fault.UsageFault.TheVariants as usage;
+
 use std::alloc::AllocError;
 use thiserror::Error;
 
@@ -34,6 +37,8 @@ pub enum UsageFault<'a> {
 }
 
 impl From<AllocError> for UsageFault<'_> {
+    ghost from_gives = { λ _ fault. fault ≡ usage.NoMemory };
+
     fn from(_: AllocError) -> Self {
         UsageFault::NoMemory
     }

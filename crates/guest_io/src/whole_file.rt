@@ -1,6 +1,7 @@
 //! Files that are there whole, or not at all.
 
-ghost use Rattle.std.specs.Prelude.{ℕ, List, OnOk};
+ghost use Rattle.std.specs.Prelude.{ℕ, List, ⊤, IfErr, OnOk};
+ghost use Rattle.image_files.specs.Faults.{IsUnread};
 ghost use Rattle.image_files.specs.WholeBytes.{AreTaken};
 
 use image_files::{Fault, Folder};
@@ -14,7 +15,8 @@ pub trait WholeFiles {
 
     /// Makes a file of these bytes in the place of one that was there. Under its name there is never a part of them.
     fn put<'a>(&self, name: &'a str, bytes: &[u8]) -> Result<(), Fault<'a>>
-        ensures { OnOk result (takes name.now bytes.now) };
+        ensures taken { OnOk result (takes name.now bytes.now) }
+        ensures refused { IfErr result (IsUnread (λ _. ⊤) name.now) };
 }
 
 /// Of the system's files no name is known, but an open one took the bytes. They go to a file NAME.new, which then gets the name. What is no
@@ -24,7 +26,10 @@ impl<R: Files + AllocGlobal> WholeFiles for R {
 
     fn put<'a>(&self, name: &'a str, bytes: &[u8]) -> Result<(), Fault<'a>> {
         if is_of_another_kind(self, name) {
-            return self.write(name, bytes);
+            return match self.write(name, bytes) {
+                Ok(()) => Ok(()),
+                Err(_) => Err(Fault::CannotRead(name)),
+            };
         }
         let new = format!(in self.alloc(); "{name}.new")?;
         if self.write(new.as_str(), bytes).is_err() {

@@ -48,9 +48,6 @@ at_limit false None true (Some n) last e = elim (subst IsLimit (sym (is_why (Bre
 at_limit false None true None true e = refl
 at_limit false None true None false e = absurd (none-some stop.Limit e)
 
-abbrev shape_of : List (Option Point) → Option ℕ → Moment → Bool → Option Why
-shape_of points hit now last = shape (is_some now.process.ending) hit (is_live now.turn now.process) (break_at points (hart_registers now.turn now.process)) last
-
 equal_of : (a b : ℕ) → (a == b) ≡ true → a ≡ b
 equal_of a b e = elim (eqb_tells a b) [ inl same ↦ same.1 | inr differ ↦ absurd (false≢true (sym differ.0 ∙ e)) ]
 

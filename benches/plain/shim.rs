@@ -1401,16 +1401,23 @@ pub mod sha2 {
 
 /// Decimal digits.
 pub mod itoa {
-    pub struct Buffer(String);
+    pub struct Buffer([u8; 20]);
 
     impl Buffer {
         pub fn new() -> Buffer {
-            Buffer(String::new())
+            Buffer([0; 20])
         }
 
-        pub fn format<I: std::fmt::Display>(&mut self, number: I) -> &str {
-            self.0 = number.to_string();
-            &self.0
+        pub fn format<I: Into<u64>>(&mut self, number: I) -> &str {
+            let (mut left, mut first) = (number.into(), 20);
+            loop {
+                first -= 1;
+                self.0[first] = b'0' + (left % 10) as u8;
+                left /= 10;
+                if left == 0 {
+                    return std::str::from_utf8(&self.0[first..]).unwrap();
+                }
+            }
         }
     }
 }

@@ -3,5 +3,8 @@ pub mod ZippedLaws
 mod Doublings
 mod Powers
 mod Seen
-mod Sizes
+pub mod Sizes
 pub mod Floors
+pub mod RowLaws
+pub mod RowsLaws
+pub mod ReplayLaws

@@ -2,3 +2,4 @@ pub mod Counted
 pub mod FrameNumbers
 pub mod Guests
 pub mod Playing
+pub mod Replayed

@@ -1,5 +1,5 @@
 -- Counts that are kept as references come.
-use Rattle.std.specs.Prelude.{◌≡◌, ℕ, ⊤, ◌+◌, ◌<◌, ◌^◌, true, false, List, [], ◌++◌, length, Option, Some, None}
+use Rattle.std.specs.Prelude.{◌≡◌, ℕ, ⊤, ◌+◌, ◌<◌, ◌≤◌, ◌^◌, true, false, List, [], ◌++◌, length, Option, Some, None}
 use Rattle.clock_policy.specs.declared.key.Key.{Key}
 use Rattle.miss_counts.specs.Counted.{misses_of, serves}
 use Rattle.miss_counts.specs.declared.policy_name.PolicyName.{PolicyName}
@@ -18,6 +18,10 @@ Opens all frames policy named = (named.0 ≡ policy) × Begins all frames policy
 -- Some pages are used: what is counted and to come stays the same, as long as the count fits.
 abbrev pub GoesOn : {S : Type 0} → (S → List Key → ℕ) → List Key → S → S → Type 0
 GoesOn all pages s t = all s [] + length pages < 2 ^ 64 → (string : List Key) → all s (pages ++ string) ≡ all t string
+
+-- and the count grows by no more than there are pages
+abbrev pub PlaysPages : {S : Type 0} → (S → List Key → ℕ) → List Key → S → S → Type 0
+PlaysPages all pages s t = GoesOn all pages s t × (all t [] ≤ all s [] + length pages)
 
 -- What was counted is left out from now on.
 abbrev pub StartsAnew : {S : Type 0} → (S → List Key → ℕ) → S → S → Type 0

@@ -11,6 +11,7 @@ mod player;
 mod policy_name;
 mod policy_set;
 mod row;
+mod rows;
 mod stages;
 mod table_size;
 
@@ -23,6 +24,6 @@ pub use play_count::{PlayCount, counts_by};
 pub use player::Counting;
 pub use policy_name::{PolicyName, any_served};
 pub use policy_set::PolicySet;
-pub use row::Row;
+pub use rows::Rows;
 pub use stages::{Quiet, Stage, StageListener};
 pub use table_size::{FootprintPart, TableSize, frames_for, frames_for_string, has_part};

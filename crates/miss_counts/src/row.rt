@@ -5,7 +5,7 @@ ghost use Rattle.std.specs.Prelude.{option_map, IfOk, OnOk};
 ghost use Rattle.std.specs.List.{AllZip};
 ghost use Rattle.clock_policy.specs.declared.key.Key.{Key};
 ghost use Rattle.miss_counts.specs.Counted.{serves};
-ghost use Rattle.miss_counts.specs.Playing.{Begins, GoesOn, Opens, StartsAnew, Where};
+ghost use Rattle.miss_counts.specs.Playing.{Begins, Opens, PlaysPages, StartsAnew, Where};
 
 use crate::any_player::AnyPlayer;
 use crate::counts::{PolicyCount, PolicyCounts};
@@ -53,7 +53,7 @@ impl Row {
         ensures frames { OnOk result (self.new.frames ≡ self.old.frames) }
         ensures references { OnOk result (self.old.references + length pages.now < 2 ^ 64 →
             self.new.references ≡ self.old.references + length pages.now) }
-        ensures players { OnOk result (AllZip (λ s t. (t.policy ≡ s.policy) × Where (GoesOn
+        ensures players { OnOk result (AllZip (λ s t. (t.policy ≡ s.policy) × Where (PlaysPages
             ⟦<AnyPlayer as Counting>⟧.all pages.now) s.player t.player)
             self.old.players.items self.new.players.items) }
     {
@@ -139,7 +139,7 @@ fn players_of(
 
 /// Some pages are used under a policy, if it is there.
 fn play_one<P: Counting>(player: &mut Option<P>, pages: &[Key]) -> Result<(), AllocError>
-    ensures { OnOk result (Where (GoesOn P.all pages.now) player.old player.new) }
+    ensures { OnOk result (Where (PlaysPages P.all pages.now) player.old player.new) }
 {
     match player {
         Some(player) => player.play(pages),
@@ -172,7 +172,7 @@ fn play_each<P: Counting>(
     players: &mut Vec<NamedPlayer<P>>,
     pages: &[Key],
 ) -> Result<(), AllocError>
-    ensures { OnOk result (AllZip (λ s t. (t.policy ≡ s.policy) × Where (GoesOn P.all pages.now)
+    ensures { OnOk result (AllZip (λ s t. (t.policy ≡ s.policy) × Where (PlaysPages P.all pages.now)
         s.player t.player) players.old.items players.new.items) }
 {
     'players: for named in players.iter_mut() {

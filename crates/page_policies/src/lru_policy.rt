@@ -1,6 +1,6 @@
 //! LRU.
 
-ghost use Rattle.std.specs.Prelude.{◌≡◌, refl};
+ghost use Rattle.std.specs.Prelude.{◌≡◌, refl, false};
 ghost use Rattle.std.specs.Map.{keys_of};
 ghost use Rattle.page_policies.specs.Strings.{holds, misses as misses_by};
 ghost use Rattle.page_policies.specs.Queues.{lru, lru_misses};
@@ -26,6 +26,8 @@ impl Policy for Lru {
         (keys_of policy.pages.entries) string };
 
     ghost refuses = { λ number. ⊥ };
+
+    ghost grows = { λ policy page. holds page (keys_of policy.pages.entries) ≡ false };
 
     ghost none_to_miss = { λ policy. refl };
 

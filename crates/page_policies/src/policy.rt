@@ -1,6 +1,6 @@
 //! What every policy owes.
 
-ghost use Rattle.std.specs.Prelude.{◌≡◌, ℕ, ◌+◌, List, [], ◌∷◌, IfOk, ◌↔◌, Err, zero};
+ghost use Rattle.std.specs.Prelude.{◌≡◌, ℕ, ◌+◌, List, [], ◌∷◌, IfOk, OnErr, ◌↔◌, Err, zero};
 ghost use Rattle.clock_policy.specs.declared.key.Key.{Key};
 ghost use Rattle.page_policies.specs.HitsAndMisses.{miss_count};
 
@@ -29,6 +29,9 @@ pub trait Policy: Drop {
     /// Which numbers of frames the policy does not serve, of those that `Frames` may be.
     ghost refuses: { ℕ → Type 0 };
 
+    /// Whether a reference to the page may want memory: one for which nothing grows does not.
+    ghost grows: { Self → Key → Type 0 };
+
     /// The policy with all its frames empty.
     fn new(alloc: Global, frames: Frames) -> Result<Self, PolicyRefusal>
         ensures misses { IfOk result (λ policy. (string : List Key) →
@@ -37,8 +40,9 @@ pub trait Policy: Drop {
 
     /// A page is used.
     fn refer(&mut self, page: Key) -> Result<HitOrMiss, AllocError>
-        ensures { IfOk result (λ outcome. (string : List Key) → to_miss self.old (page ∷ string) ≡
-            miss_count outcome + to_miss self.new string) };
+        ensures outcome { IfOk result (λ outcome. (string : List Key) → to_miss self.old (page ∷
+            string) ≡ miss_count outcome + to_miss self.new string) }
+        ensures memory { OnErr result (grows self.old page) };
 
     ghost none_to_miss: { (policy : Self) → to_miss policy [] ≡ 0 };
 }

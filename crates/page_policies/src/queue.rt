@@ -1,6 +1,6 @@
 //! Pages in an order.
 
-ghost use Rattle.std.specs.Prelude.{◌≡◌, ◌<◌, ◌^◌, [], cond, length, OnOk, IfOk};
+ghost use Rattle.std.specs.Prelude.{◌≡◌, ◌<◌, ◌^◌, [], cond, false, length, OnOk, OnErr, IfOk};
 ghost use Rattle.page_policies.specs.Strings.{holds, without};
 ghost use Rattle.page_policies.specs.Ordered.{to_front, last_of, but_last, at_most};
 
@@ -52,9 +52,11 @@ impl Queue {
         self.pages.contains(&page)
     }
 
-    /// The page comes to the front, from wherever it was.
+    /// The page comes to the front, from wherever it was. Memory is wanted for a page that was nowhere, and then nothing changes.
     pub fn push(&mut self, page: Key) -> Result<(), AllocError>
-        ensures { OnOk result (self.new ≡ to_front page self.old) }
+        ensures order { OnOk result (self.new ≡ to_front page self.old) }
+        ensures err { OnErr result (self.new ≡ self.old) }
+        ensures memory { OnErr result (holds page self.old ≡ false) }
     {
         // For the proof alone: a read tells how many pages there may be.
         let _ = self.pages.len();

@@ -1,6 +1,6 @@
 //! Random replacement.
 
-ghost use Rattle.std.specs.Prelude.{◌≡◌, ◌≤◌, ◌<◌, ◌++◌, ◌∷◌, [], refl, false, length, List, IfOk, OnOk};
+ghost use Rattle.std.specs.Prelude.{◌≡◌, ◌≤◌, ◌<◌, ◌++◌, ◌∷◌, [], refl, false, length, List, IfOk, OnOk, OnErr};
 ghost use Rattle.rand_pcg.specs.Pcg.{pcg32};
 ghost use Rattle.clock_policy.specs.declared.key.Key.{Key};
 ghost use Rattle.page_policies.specs.Strings.{holds, misses as misses_by};
@@ -90,6 +90,7 @@ impl RandomPolicy {
         ensures hit { IfOk result (λ hit. hit ≡ in_random page (pages_of self.old)) }
         ensures pages { OnOk result (pages_of self.new ≡ random self.old.frames page (pages_of
             self.old)) }
+        ensures memory { OnErr result (in_random page (pages_of self.old) ≡ false) }
         ensures frames { self.new.frames ≡ self.old.frames }
     {
         if is_in(&self.pages, page) {
@@ -108,6 +109,8 @@ impl Policy for RandomPolicy {
         string };
 
     ghost refuses = { λ number. ⊥ };
+
+    ghost grows = { λ policy page. in_random page (pages_of policy) ≡ false };
 
     ghost none_to_miss = { λ policy. refl };
 

@@ -130,6 +130,8 @@ impl Policy for SecondChance {
 
     ghost refuses = { λ number. ⊥ };
 
+    ghost grows = { λ policy page. ⊥ };
+
     ghost none_to_miss = { λ policy. refl };
 
     #[tactic(auto, unfolding(crate::specs::SecondChance::clock_misses))]

@@ -1,1 +1,5 @@
 pub mod Asked
+pub mod Curves
+pub mod Replays
+pub mod Totals
+pub mod Traces

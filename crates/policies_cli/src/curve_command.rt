@@ -1,19 +1,17 @@
-//! `policies curve`: what a trace misses with every number of frames.
+//! `policies curve`: what a trace misses with every number of frames, or its working sets.
 
-use crate::curve_string::curve_string;
-use crate::teller::Teller;
-use crate::windows_curve::run_windows;
+ghost use Rattle.std.specs.Prelude.{◌≡◌, IfOk};
+ghost use Rattle.policies_cli.specs.Curves.{AreCurves, AreWindows, IsEstimate, OfSample, OfString};
+ghost use Rattle.policies_cli.specs.Replays.{OfFile};
+
+use crate::curve_string::{curve_sample, curve_string};
+use crate::curves::{Curves, Estimate, Windows, curves_of, estimate_of, windows_of};
 use crate::wrong::Wrong;
-use clock_policy::Key;
-use page_policies::{Frames, MOST_POLICY_FRAMES};
 use policies_requests::CurveRequest;
-use policies_tables::{Sample, write_curve, write_estimate};
-use std::alloc::{AllocError, Global};
+use policies_tables::{write_curve, write_estimate, write_windows};
 use std::io::Write;
 use std::num::NonZeroU32;
 use std::rt::Files;
-use trace_files::{open_trace, read_sample};
-use whole_strings::{lru_curve, optimum_curve};
 
 /// Counts a trace, and writes a row for each number of frames up to as many as it has pages, or for each window.
 pub(crate) fn run_curve<'a, R: Files + AllocGlobal, W: Write, E: Write>(
@@ -26,90 +24,99 @@ pub(crate) fn run_curve<'a, R: Files + AllocGlobal, W: Write, E: Write>(
         return run_windows(rt, request, out, err);
     }
     match request.one_in {
-        Some(one_in) => estimate(rt, request, one_in, out, err),
-        None => count(rt, request, out, err),
+        Some(one_in) => run_estimate(rt, request, one_in, out, err),
+        None => run_whole(rt, request, out, err),
     }
 }
 
-/// Counts the whole trace: LRU in one pass, and the optimum in another.
-fn count<'a, R: Files + AllocGlobal, W: Write, E: Write>(
+/// Counts the whole trace.
+fn run_whole<'a, R: Files + AllocGlobal, W: Write, E: Write>(
     rt: &R,
     request: &CurveRequest<'a>,
     out: &mut W,
     err: &mut E,
 ) -> Result<(), Wrong<'a>> {
-    let string = curve_string(rt, request, err)?;
-    write_counted(rt.alloc(), string.as_slice(), request, out)
-}
-
-fn write_counted<'a, W: Write>(
-    alloc: Global,
-    string: &[Key],
-    request: &CurveRequest<'a>,
-    out: &mut W,
-) -> Result<(), Wrong<'a>> {
-    let lru = lru_curve(alloc, string)?;
-    if lru.len() > MOST_POLICY_FRAMES {
-        return Err(Wrong::ManyPages(lru.len()));
-    }
-    write_both(alloc, string, lru.as_slice(), request, out)
-}
-
-/// Writes what LRU misses, and what the optimum does where that is asked for.
-fn write_both<'a, W: Write>(
-    alloc: Global,
-    string: &[Key],
-    lru: &[usize],
-    request: &CurveRequest<'a>,
-    out: &mut W,
-) -> Result<(), Wrong<'a>> {
-    let most = if request.has_optimum { lru.len() } else { 0 };
-    let optimum = optimum_of(alloc, string, most)?;
+    let curves = count_curves(rt, request, err)?;
     Ok(write_curve(
-        lru,
-        optimum.as_slice(),
-        string.len() as u64,
+        curves.lru.as_slice(),
+        curves.optimum.as_slice(),
+        curves.references,
         request.printing,
         out,
     )?)
 }
 
-/// What the optimum misses with 1, 2 and more frames, up to so many, or none.
-fn optimum_of(alloc: Global, string: &[Key], pages: usize) -> Result<Vec<usize>, AllocError> {
-    match Frames::new(pages) {
-        Some(most) => optimum_curve(alloc, string, most),
-        None => Ok(Vec::new(alloc)),
-    }
+/// The curve of the whole trace under LRU, and under the optimum where that is asked for.
+#[tactic(auto, using(crate::proofs::Opened::of_string))]
+fn count_curves<'a, R: Files + AllocGlobal, E: Write>(
+    rt: &R,
+    request: &CurveRequest<'a>,
+    err: &mut E,
+) -> Result<Curves, Wrong<'a>>
+    ensures { IfOk result (λ curves. OfFile R.File.remaining request.now.format (OfString (λ string.
+        AreCurves request.now.has_optimum string curves))) }
+{
+    let string = curve_string(rt, request, err)?;
+    let curves = curves_of(rt.alloc(), string.as_slice(), request.has_optimum)?;
+    Ok(curves)
 }
 
 /// Counts a sample of one page in so many, and writes what that says of the whole.
-fn estimate<'a, R: Files + AllocGlobal, W: Write, E: Write>(
+fn run_estimate<'a, R: Files + AllocGlobal, W: Write, E: Write>(
     rt: &R,
     request: &CurveRequest<'a>,
     one_in: NonZeroU32,
     out: &mut W,
     err: &mut E,
 ) -> Result<(), Wrong<'a>> {
-    let (sample, references) = sample_of(rt, request, one_in, err)?;
-    let lru = lru_curve(rt.alloc(), sample.as_slice())?;
-    let of = Sample {
-        one_in: one_in.get(),
-        sampled: sample.len() as u64,
-        references,
-    };
-    Ok(write_estimate(lru.as_slice(), of, request.printing, out)?)
+    let estimate = count_sample(rt, request, one_in, err)?;
+    Ok(write_estimate(estimate.lru.as_slice(), estimate.of, request.printing, out)?)
 }
 
-/// The references of a trace to one page in so many, and how many it has to any. How far it is read is told meanwhile.
-fn sample_of<'a, R: Files + AllocGlobal, E: Write>(
+/// The curve of the sample under LRU.
+#[tactic(auto, using(crate::proofs::Opened::of_sample))]
+fn count_sample<'a, R: Files + AllocGlobal, E: Write>(
     rt: &R,
     request: &CurveRequest<'a>,
     one_in: NonZeroU32,
     err: &mut E,
-) -> Result<(Vec<Key>, u64), Wrong<'a>> {
-    let mut trace = open_trace(rt, request.trace, request.format)?;
-    let mut teller = Teller::new(err, request.is_told);
-    let read = read_sample(rt.alloc(), &mut trace, one_in, &mut teller);
-    teller.erase();
-    Ok(read?)
+) -> Result<Estimate, Wrong<'a>>
+    ensures { IfOk result (λ estimate. OfFile R.File.remaining request.now.format
+        (OfSample one_in.value (λ references sample. IsEstimate one_in.value references sample
+        estimate))) }
+{
+    let (sample, references) = curve_sample(rt, request, one_in, err)?;
+    let estimate = estimate_of(rt.alloc(), sample.as_slice(), one_in, references)?;
+    Ok(estimate)
+}
+
+/// Counts the working sets of a whole trace, and writes a row for each window up to the one with which each page misses once.
+fn run_windows<'a, R: Files + AllocGlobal, W: Write, E: Write>(
+    rt: &R,
+    request: &CurveRequest<'a>,
+    out: &mut W,
+    err: &mut E,
+) -> Result<(), Wrong<'a>> {
+    let windows = count_windows(rt, request, err)?;
+    Ok(write_windows(
+        windows.curve.as_slice(),
+        windows.references,
+        request.printing,
+        out,
+    )?)
+}
+
+/// The working sets of the whole trace.
+#[tactic(auto, using(crate::proofs::Opened::of_string))]
+fn count_windows<'a, R: Files + AllocGlobal, E: Write>(
+    rt: &R,
+    request: &CurveRequest<'a>,
+    err: &mut E,
+) -> Result<Windows, Wrong<'a>>
+    ensures { IfOk result (λ windows. OfFile R.File.remaining request.now.format (OfString (λ string.
+        AreWindows string windows))) }
+{
+    let string = curve_string(rt, request, err)?;
+    let windows = windows_of(rt.alloc(), string.as_slice())?;
+    Ok(windows)
 }

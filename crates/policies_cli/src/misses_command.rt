@@ -30,7 +30,9 @@ fn count_told<'a, R: Files + AllocGlobal, E: Write>(
     rt: &R,
     request: MissesRequest<'a>,
     err: &mut E,
-) -> Result<Vec<PolicyCounts>, Wrong<'a>> {
+) -> Result<Vec<PolicyCounts>, Wrong<'a>>
+    ensures { IfOk result (λ rows. CountsAsAsked ⟦<R as Folder>⟧.gives request.entry rows.items) }
+{
     let mut teller = Teller::new(err, request.is_told);
     let counted = count_misses(rt, request, &mut teller);
     teller.erase();

@@ -1,7 +1,14 @@
 //! `policies write-backs`: how many pages of a trace are written back.
 
+ghost use Rattle.std.specs.Prelude.{◌≡◌, map, IfOk, IfSome};
+ghost use Rattle.miss_counts.specs.FrameNumbers.{frames_for, page_count};
+ghost use Rattle.miss_counts.specs.Guests.{pages_of};
+ghost use Rattle.trace_files.specs.ReferenceAnswers.{to_come};
+ghost use Rattle.policies_cli.specs.Replays.{OfFile, WritesBackAsAsked};
+
 use crate::teller::Teller;
 use crate::wrong::Wrong;
+use clock_policy::Key;
 use guest_strings::Reference;
 use miss_counts::{
     PolicyCounts, StageListener, TableSize, frames_for, frames_for_string, has_part,
@@ -10,9 +17,9 @@ use page_policies::Frames;
 use policies_requests::WriteBacksRequest;
 use policies_tables::write_table;
 use std::alloc::{AllocError, Global};
-use std::io::Write;
+use std::io::{BufRead, Write};
 use std::rt::Files;
-use trace_files::{open_trace, read_references};
+use trace_files::{TraceFile, open_trace, read_references};
 use write_backs::write_back_rows;
 
 /// Plays a trace on each policy, and writes a table of the pages that are written back.
@@ -31,51 +38,77 @@ fn count_told<'a, R: Files + AllocGlobal, E: Write>(
     rt: &R,
     request: &WriteBacksRequest<'a>,
     err: &mut E,
-) -> Result<Vec<PolicyCounts>, Wrong<'a>> {
+) -> Result<Vec<PolicyCounts>, Wrong<'a>>
+    ensures { IfOk result (λ rows. OfFile R.File.remaining request.now.format (WritesBackAsAsked
+        request.now rows.items)) }
+{
     let mut teller = Teller::new(err, request.is_told);
-    let counted = count(rt, request, &mut teller);
+    let counted = count_trace(rt, request, &mut teller);
     teller.erase();
     counted
 }
 
-fn count<'a, R: Files + AllocGlobal, P: StageListener>(
+/// The rows of the table.
+#[tactic(auto, using(crate::proofs::Opened::of_file))]
+fn count_trace<'a, R: Files + AllocGlobal, P: StageListener>(
     rt: &R,
     request: &WriteBacksRequest<'a>,
     progress: &mut P,
-) -> Result<Vec<PolicyCounts>, Wrong<'a>> {
-    let string = string_of(rt, request, progress)?;
-    let frames = frames_of(rt.alloc(), request.sizes.as_slice(), string.as_slice())?;
-    Ok(write_back_rows(
-        rt.alloc(),
+) -> Result<Vec<PolicyCounts>, Wrong<'a>>
+    ensures { IfOk result (λ rows. OfFile R.File.remaining request.now.format (WritesBackAsAsked
+        request.now rows.items)) }
+{
+    let mut trace = open_trace(rt, request.trace, request.format)?;
+    let rows = count_opened(rt.alloc(), &mut trace, request, progress)?;
+    Ok(rows)
+}
+
+/// The same of a trace that is open.
+pub fn count_opened<'a, B: BufRead + Drop, P: StageListener>(
+    alloc: Global,
+    trace: &mut TraceFile<'a, B>,
+    request: &WriteBacksRequest<'a>,
+    progress: &mut P,
+) -> Result<Vec<PolicyCounts>, Wrong<'a>>
+    ensures { IfOk result (λ rows. WritesBackAsAsked request.now rows.items (to_come B.remaining
+        trace.old)) }
+{
+    let string = read_references(alloc, trace, progress)?;
+    let frames = frames_of(alloc, request.sizes.as_slice(), string.as_slice())?;
+    let rows = write_back_rows(
+        alloc,
         frames.as_slice(),
         string.as_slice(),
         request.policies.as_slice(),
         progress,
-    )?)
+    )?;
+    Ok(rows)
 }
 
 /// The numbers of frames for a string.
+#[tactic(auto, using(miss_counts::proofs::Sizes::without_parts))]
 fn frames_of(
     alloc: Global,
     sizes: &[TableSize],
     string: &[Reference],
-) -> Result<Vec<Frames>, AllocError> {
+) -> Result<Vec<Frames>, AllocError>
+    ensures { IfOk result (λ all. map (λ f. f.number) all.items ≡ map (frames_for (page_count
+        (pages_of string.now))) sizes.now) }
+{
     if !has_part(sizes) {
         return frames_for(alloc, sizes, 0);
     }
-    let mut pages = Vec::new(alloc);
-    for reference in string {
-        pages.push(reference.page)?;
-    }
+    let pages = pages_in(alloc, string)?;
     frames_for_string(alloc, sizes, pages.as_slice())
 }
 
-/// The references of the whole trace.
-fn string_of<'a, R: Files + AllocGlobal, P: StageListener>(
-    rt: &R,
-    request: &WriteBacksRequest<'a>,
-    progress: &mut P,
-) -> Result<Vec<Reference>, Wrong<'a>> {
-    let mut trace = open_trace(rt, request.trace, request.format)?;
-    Ok(read_references(rt.alloc(), &mut trace, progress)?)
+/// The pages of references.
+fn pages_in(alloc: Global, string: &[Reference]) -> Result<Vec<Key>, AllocError>
+    ensures { IfOk result (λ pages. pages.items ≡ pages_of string.now) }
+{
+    let mut pages = Vec::new(alloc);
+    'references: for reference in string {
+        pages.push(reference.page)?;
+    }
+    Ok(pages)
 }

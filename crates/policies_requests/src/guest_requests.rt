@@ -1,10 +1,16 @@
 //! Requests on guests.
 
+ghost use Rattle.std.specs.Prelude.{◌≡◌, map, IfOk};
+ghost use Rattle.clap.specs.Matches.{found_of};
+ghost use Rattle.clap.specs.Walk.{rows_of};
+ghost use Rattle.policies_requests.specs.Options.{AsksFormat};
+ghost use Rattle.policies_requests.specs.Requested.{AreImages, AsksGuest, AsksMisses, AsksTrace};
+
 use crate::access_choice::accesses;
 use crate::fault::RequestFault;
-use crate::options::{is_given, listed_sizes, number_from, printing};
+use crate::options::{all, found, is_given, listed_sizes, number_from, printing};
 use crate::policy_choice::wanted_policies;
-use crate::request::{GuestRequest, MissesRequest, PoliciesRequest, TraceRequest};
+use crate::request::{GuestRequest, MissesRequest, TraceRequest};
 use crate::trace_formats::format;
 use clap::ArgMatches;
 use machine_limits::MOST_PROCESSES;
@@ -24,16 +30,18 @@ const WRITTEN_FORMATS: &str = "text, csv or oraclegeneral";
 pub(crate) fn misses_request<'a>(
     alloc: Global,
     matches: &ArgMatches<'a>,
-) -> Result<PoliciesRequest<'a>, RequestFault<'a>> {
+) -> Result<MissesRequest<'a>, RequestFault<'a>>
+    ensures { IfOk result (AsksMisses (rows_of (found_of matches.now))) }
+{
     let (sizes, wanted) = guests_table(alloc, matches)?;
     let guest = guest_request(alloc, matches)?;
-    Ok(PoliciesRequest::Misses(MissesRequest {
+    Ok(MissesRequest {
         guest,
         sizes,
         wanted,
         printing: printing(matches),
         is_told: is_given(matches, "progress"),
-    }))
+    })
 }
 
 /// The numbers of frames of a table of guests, if they are named, and the policies.
@@ -54,15 +62,19 @@ fn guests_table<'a>(
 pub(crate) fn trace_request<'a>(
     alloc: Global,
     matches: &ArgMatches<'a>,
-) -> Result<PoliciesRequest<'a>, RequestFault<'a>> {
+) -> Result<TraceRequest<'a>, RequestFault<'a>>
+    ensures { IfOk result (AsksTrace (rows_of (found_of matches.now))) }
+{
     let format = written_format(matches)?;
     let guest = guest_request(alloc, matches)?;
-    Ok(PoliciesRequest::Trace(TraceRequest { guest, format }))
+    Ok(TraceRequest { guest, format })
 }
 
 /// The format that a trace is written in.
-fn written_format<'a>(matches: &ArgMatches<'a>) -> Result<TraceFormat, RequestFault<'a>> {
-    match matches.get_str("format") {
+fn written_format<'a>(matches: &ArgMatches<'a>) -> Result<TraceFormat, RequestFault<'a>>
+    ensures { IfOk result (AsksFormat (rows_of (found_of matches.now))) }
+{
+    match found(matches, "format") {
         Some(name @ ("lackey" | "dynamorio")) => Err(RequestFault::Value(
             "format",
             name,
@@ -75,7 +87,9 @@ fn written_format<'a>(matches: &ArgMatches<'a>) -> Result<TraceFormat, RequestFa
 fn guest_request<'a>(
     alloc: Global,
     matches: &ArgMatches<'a>,
-) -> Result<GuestRequest<'a>, RequestFault<'a>> {
+) -> Result<GuestRequest<'a>, RequestFault<'a>>
+    ensures { IfOk result (AsksGuest (rows_of (found_of matches.now))) }
+{
     let slice = number_from(matches, "slice", 1000, 1, 100_000, SLICES)?;
     let limit = number_from(matches, "limit", 100_000_000, 1, 1_000_000_000, LIMITS)?;
     let accesses = accesses(matches)?;
@@ -84,17 +98,17 @@ fn guest_request<'a>(
         accesses,
         slice,
         limit,
-        input: matches.get_str("input"),
+        input: found(matches, "input"),
         images,
     })
 }
 
 /// The names of the images, as many as a machine has processes at most.
-fn images_in<'a>(
-    alloc: Global,
-    matches: &ArgMatches<'a>,
-) -> Result<Vec<&'a str>, RequestFault<'a>> {
-    match matches.get_strs("image") {
+fn images_in<'a>(alloc: Global, matches: &ArgMatches<'a>) -> Result<Vec<&'a str>, RequestFault<'a>>
+    ensures { IfOk result (λ names. AreImages (rows_of (found_of matches.now)) (map (λ name.
+        name.now) names.items)) }
+{
+    match all(matches, "image") {
         Some(images) if images.len() > MOST_PROCESSES => Err(RequestFault::ManyImages(
             images.len(),
         )),

@@ -1,5 +1,10 @@
 //! What single options say.
 
+ghost use Rattle.std.specs.Prelude.{◌≡◌, ◌≤◌, ◌↔◌, Some, codes, map, option_map, IfOk, IsTrue};
+ghost use Rattle.clap.specs.Matches.{found_of};
+ghost use Rattle.clap.specs.Walk.{all_of, first_of, rows_of};
+ghost use Rattle.policies_requests.specs.Options.{AsksPrinting, IsOption, IsSet};
+
 use crate::fault::RequestFault;
 use crate::frame_lists::{ListFault, sizes_in};
 use clap::ArgMatches;
@@ -12,20 +17,48 @@ use text_lines::numeral;
 const FRAMES: &str =
     "numbers from 1 to 16777216, ranges of them, as 4-64 or 4-64x2, or parts of the pages, as 0.1%, parted by commas";
 
+/// The value of an argument, if it is given.
+#[tactic(auto, using(crate::proofs::Rows::value_by_rows))]
+pub(crate) fn found<'a>(matches: &ArgMatches<'a>, name: &str) -> Option<&'a str>
+    ensures { option_map (λ text. text.now) result ≡ first_of name.now
+        (rows_of (found_of matches.now)) }
+{
+    matches.get_str(name)
+}
+
+/// The values of an argument that may be given several times.
+#[tactic(auto, using(crate::proofs::Rows::values_by_rows))]
+pub(crate) fn all<'m, 'a>(matches: &'m ArgMatches<'a>, name: &str) -> Option<&'m [&'a str]>
+    ensures { option_map (λ texts. map (λ text. text.now) texts.now) result ≡ all_of name.now
+        (rows_of (found_of matches.now)) }
+{
+    matches.get_strs(name)
+}
+
 /// Whether a flag is given.
-pub(crate) fn is_given(matches: &ArgMatches<'_>, name: &str) -> bool {
-    matches.get_str(name) == Some("true")
+pub(crate) fn is_given(matches: &ArgMatches<'_>, name: &str) -> bool
+    ensures { IsTrue result ↔ IsSet name.now (rows_of (found_of matches.now)) }
+{
+    match found(matches, name) {
+        Some(text) => text == "true",
+        None => false,
+    }
 }
 
 /// The name of the trace.
-pub(crate) fn trace<'a>(matches: &ArgMatches<'a>) -> Result<&'a str, RequestFault<'a>> {
-    match matches.get_str("trace") {
+pub(crate) fn trace<'a>(matches: &ArgMatches<'a>) -> Result<&'a str, RequestFault<'a>>
+    ensures { IfOk result (λ trace. first_of (codes "trace") (rows_of (found_of matches.now)) ≡
+        Some trace.now) }
+{
+    match found(matches, "trace") {
         Some(trace) => Ok(trace),
         None => Err(RequestFault::BadUsage),
     }
 }
 
-pub(crate) fn printing(matches: &ArgMatches<'_>) -> Printing {
+pub(crate) fn printing(matches: &ArgMatches<'_>) -> Printing
+    ensures { AsksPrinting (rows_of (found_of matches.now)) result }
+{
     Printing {
         is_csv: is_given(matches, "csv"),
         is_ratio: is_given(matches, "ratio"),
@@ -40,8 +73,12 @@ pub(crate) fn number_from<'a>(
     least: u32,
     most: u32,
     allowed: &'static str,
-) -> Result<u32, RequestFault<'a>> {
-    let Some(text) = matches.get_str(name) else {
+) -> Result<u32, RequestFault<'a>>
+    ensures number { IfOk result (λ number. IsOption default least most number (first_of name.now
+        (rows_of (found_of matches.now)))) }
+    ensures within { default ≤ most → IfOk result (λ number. number ≤ most) }
+{
+    let Some(text) = found(matches, name) else {
         return Ok(default);
     };
     match numeral(text.as_bytes(), 10, most) {

@@ -1,5 +1,7 @@
 //! Which policies are asked for.
 
+ghost use Rattle.std.specs.Prelude.{◌≡◌, true, IfOk};
+
 use crate::fault::RequestFault;
 use crate::options::{is_given, number_from};
 use crate::policy_names::{has_word, policies_in, usual_policies};
@@ -24,7 +26,9 @@ pub(crate) fn replayed_policies<'a>(
     matches: &ArgMatches<'a>,
     sizes: &[TableSize],
     skip: u32,
-) -> Result<PolicySet, RequestFault<'a>> {
+) -> Result<PolicySet, RequestFault<'a>>
+    ensures whole { IfOk result (λ wanted. wanted.optimum ≡ true → skip ≡ 0) }
+{
     let optimum = is_given(matches, "optimum");
     let wanted = wanted_policies(alloc, matches, optimum, optimum, sizes)?;
     if skip > 0 && wanted.optimum {

@@ -1,5 +1,7 @@
 //! What is asked for.
 
+ghost use Rattle.std.specs.Prelude.{◌≡◌, true};
+
 use guest_strings::AccessKinds;
 use miss_counts::{PolicyName, PolicySet, TableSize};
 use policies_tables::Printing;
@@ -63,6 +65,7 @@ pub struct ReplayRequest<'a> {
     /// Whether it is told on standard error how far the count is.
     pub is_told: bool,
     pub trace: &'a str,
+    ghost whole: { wanted.optimum ≡ true → skip ≡ 0 },
 }
 
 /// Count what a trace misses under LRU with every number of frames, or its working sets.

@@ -1,5 +1,11 @@
 //! From words to a request.
 
+ghost use Rattle.std.specs.Prelude.{IfOk};
+ghost use Rattle.clap.specs.Matches.{found_of};
+ghost use Rattle.clap.specs.Simple.{subcommand_rows_of};
+ghost use Rattle.clap.specs.Walk.{rows_of};
+ghost use Rattle.policies_requests.specs.Requested.{Asks, IsAsked};
+
 use crate::commands::policies;
 use crate::fault::RequestFault;
 use crate::guest_requests::{misses_request, trace_request};
@@ -29,17 +35,34 @@ fn words_wrong<'a>(error: clap::Error) -> RequestFault<'a> {
     }
 }
 
+/// The request that the arguments of a command make.
 fn request_of<'a>(
     alloc: Global,
     matches: &ArgMatches<'a>,
-) -> Result<PoliciesRequest<'a>, RequestFault<'a>> {
+) -> Result<PoliciesRequest<'a>, RequestFault<'a>>
+    ensures { IfOk result (IsAsked (subcommand_rows_of matches.now)) }
+{
     match matches.subcommand() {
-        Some(("misses", matches)) => misses_request(alloc, matches),
-        Some(("trace", matches)) => trace_request(alloc, matches),
-        Some(("replay", matches)) => replay_request(alloc, matches),
-        Some(("curve", matches)) => curve_request(matches),
-        Some(("write-backs", matches)) => write_backs_request(alloc, matches),
-        Some(("totals", matches)) => totals_request(matches),
+        Some((name, matches)) => named_request(alloc, name, matches),
+        None => Err(RequestFault::BadUsage),
+    }
+}
+
+/// The request of the command of this name, with its arguments.
+fn named_request<'a>(
+    alloc: Global,
+    name: &str,
+    matches: &ArgMatches<'a>,
+) -> Result<PoliciesRequest<'a>, RequestFault<'a>>
+    ensures { IfOk result (Asks name.now (rows_of (found_of matches.now))) }
+{
+    match name {
+        "misses" => Ok(PoliciesRequest::Misses(misses_request(alloc, matches)?)),
+        "trace" => Ok(PoliciesRequest::Trace(trace_request(alloc, matches)?)),
+        "replay" => Ok(PoliciesRequest::Replay(replay_request(alloc, matches)?)),
+        "curve" => Ok(PoliciesRequest::Curve(curve_request(matches)?)),
+        "write-backs" => Ok(PoliciesRequest::WriteBacks(write_backs_request(alloc, matches)?)),
+        "totals" => Ok(PoliciesRequest::Totals(totals_request(matches)?)),
         _ => Err(RequestFault::BadUsage),
     }
 }

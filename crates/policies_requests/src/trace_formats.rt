@@ -1,6 +1,12 @@
 //! Formats of traces, and the columns of tables.
 
+ghost use Rattle.std.specs.Prelude.{◌≡◌, Some, None, codes, IfOk, IfSome};
+ghost use Rattle.clap.specs.Matches.{found_of};
+ghost use Rattle.clap.specs.Walk.{first_of, rows_of};
+ghost use Rattle.policies_requests.specs.Options.{AsksFormat, IsNamed};
+
 use crate::fault::RequestFault;
+use crate::options::found;
 use clap::ArgMatches;
 use text_lines::numeral;
 use trace_files::{IdColumn, IdKind, TraceFormat};
@@ -16,16 +22,21 @@ const COLUMNS: &str =
 const TABLES: &str = "only csv has columns";
 
 /// The format that a trace is in: text where none is named.
-pub(crate) fn format<'a>(matches: &ArgMatches<'a>) -> Result<TraceFormat, RequestFault<'a>> {
+pub(crate) fn format<'a>(matches: &ArgMatches<'a>) -> Result<TraceFormat, RequestFault<'a>>
+    ensures { IfOk result (AsksFormat (rows_of (found_of matches.now))) }
+{
     let format = named_format(matches)?;
-    match matches.get_str("columns") {
+    match found(matches, "columns") {
         None => Ok(format),
         Some(list) => Ok(TraceFormat::Columns(id_column(format, list)?)),
     }
 }
 
-fn named_format<'a>(matches: &ArgMatches<'a>) -> Result<TraceFormat, RequestFault<'a>> {
-    let Some(name) = matches.get_str("format") else {
+fn named_format<'a>(matches: &ArgMatches<'a>) -> Result<TraceFormat, RequestFault<'a>>
+    ensures { IfOk result (λ format. IsNamed format (first_of (codes "format")
+        (rows_of (found_of matches.now)))) }
+{
+    let Some(name) = found(matches, "format") else {
         return Ok(TraceFormat::Text);
     };
     match format_named(name) {
@@ -34,7 +45,9 @@ fn named_format<'a>(matches: &ArgMatches<'a>) -> Result<TraceFormat, RequestFaul
     }
 }
 
-fn format_named(name: &str) -> Option<TraceFormat> {
+fn format_named(name: &str) -> Option<TraceFormat>
+    ensures { IfSome result (λ format. IsNamed format (Some name.now)) }
+{
     match name {
         "text" => Some(TraceFormat::Text),
         "csv" => Some(TraceFormat::Csv),
@@ -46,7 +59,11 @@ fn format_named(name: &str) -> Option<TraceFormat> {
 }
 
 /// The column of ids of a table without names, by a list of columns.
-fn id_column<'a>(format: TraceFormat, list: &'a str) -> Result<IdColumn, RequestFault<'a>> {
+fn id_column<'a>(format: TraceFormat, list: &'a str) -> Result<IdColumn, RequestFault<'a>>
+    ensures table { IfOk result (λ column. format ≡ TraceFormat.Csv) }
+    ensures unknown { IfOk result (λ column. (column.separator ≡ None) × (column.ids ≡
+        IdKind.Unknown)) }
+{
     if format != TraceFormat::Csv {
         return Err(RequestFault::Together("columns", "format", TABLES));
     }

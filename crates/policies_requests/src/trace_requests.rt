@@ -1,11 +1,14 @@
 //! Requests on traces.
 
+ghost use Rattle.std.specs.Prelude.{IfOk};
+ghost use Rattle.clap.specs.Matches.{found_of};
+ghost use Rattle.clap.specs.Walk.{rows_of};
+ghost use Rattle.policies_requests.specs.Requested.{AsksCurve, AsksReplay, AsksTotals, AsksWriteBacks};
+
 use crate::fault::RequestFault;
 use crate::options::{is_given, listed_sizes, number_from, printing, trace};
 use crate::policy_choice::{replayed_policies, writing_policies};
-use crate::request::{
-    CurveRequest, PoliciesRequest, ReplayRequest, TotalsRequest, WriteBacksRequest,
-};
+use crate::request::{CurveRequest, ReplayRequest, TotalsRequest, WriteBacksRequest};
 use crate::trace_formats::format;
 use clap::ArgMatches;
 use machine_limits::MOST_FRAMES;
@@ -25,13 +28,15 @@ const WORKING_SETS: &str = "a working set goes by a window, and by no number of 
 pub(crate) fn replay_request<'a>(
     alloc: Global,
     matches: &ArgMatches<'a>,
-) -> Result<PoliciesRequest<'a>, RequestFault<'a>> {
+) -> Result<ReplayRequest<'a>, RequestFault<'a>>
+    ensures { IfOk result (AsksReplay (rows_of (found_of matches.now))) }
+{
     let skip = number_from(matches, "skip", 0, 0, u32::MAX, SKIPPED)?;
     let format = format(matches)?;
     let trace = trace(matches)?;
     let sizes = trace_sizes(alloc, matches)?;
     let wanted = replayed_policies(alloc, matches, sizes.as_slice(), skip)?;
-    Ok(PoliciesRequest::Replay(ReplayRequest {
+    Ok(ReplayRequest {
         sizes,
         format,
         wanted,
@@ -39,7 +44,7 @@ pub(crate) fn replay_request<'a>(
         printing: printing(matches),
         is_told: is_given(matches, "progress"),
         trace,
-    }))
+    })
 }
 
 /// The numbers of frames that a trace is played with.
@@ -65,24 +70,28 @@ fn usual_sizes(alloc: Global) -> Result<Vec<TableSize>, AllocError> {
 pub(crate) fn write_backs_request<'a>(
     alloc: Global,
     matches: &ArgMatches<'a>,
-) -> Result<PoliciesRequest<'a>, RequestFault<'a>> {
+) -> Result<WriteBacksRequest<'a>, RequestFault<'a>>
+    ensures { IfOk result (AsksWriteBacks (rows_of (found_of matches.now))) }
+{
     let format = format(matches)?;
     let trace = trace(matches)?;
     let sizes = trace_sizes(alloc, matches)?;
     let policies = writing_policies(alloc, matches, sizes.as_slice())?;
-    Ok(PoliciesRequest::WriteBacks(WriteBacksRequest {
+    Ok(WriteBacksRequest {
         sizes,
         format,
         policies,
         printing: printing(matches),
         is_told: is_given(matches, "progress"),
         trace,
-    }))
+    })
 }
 
 pub(crate) fn curve_request<'a>(
     matches: &ArgMatches<'a>,
-) -> Result<PoliciesRequest<'a>, RequestFault<'a>> {
+) -> Result<CurveRequest<'a>, RequestFault<'a>>
+    ensures { IfOk result (AsksCurve (rows_of (found_of matches.now))) }
+{
     let one_in = number_from(matches, "sample", 0, 1, u32::MAX, SAMPLES)?;
     let has_optimum = is_given(matches, "optimum");
     let is_of_windows = is_given(matches, "working-sets");
@@ -91,7 +100,7 @@ pub(crate) fn curve_request<'a>(
     }
     let format = format(matches)?;
     let trace = trace(matches)?;
-    Ok(PoliciesRequest::Curve(CurveRequest {
+    Ok(CurveRequest {
         format,
         has_optimum,
         is_of_windows,
@@ -99,7 +108,7 @@ pub(crate) fn curve_request<'a>(
         printing: printing(matches),
         is_told: is_given(matches, "progress"),
         trace,
-    }))
+    })
 }
 
 /// What is wrong with curves that are asked for together, if anything is.
@@ -122,11 +131,13 @@ fn curves_together<'a>(
 
 pub(crate) fn totals_request<'a>(
     matches: &ArgMatches<'a>,
-) -> Result<PoliciesRequest<'a>, RequestFault<'a>> {
+) -> Result<TotalsRequest<'a>, RequestFault<'a>>
+    ensures { IfOk result (AsksTotals (rows_of (found_of matches.now))) }
+{
     let format = format(matches)?;
-    Ok(PoliciesRequest::Totals(TotalsRequest {
+    Ok(TotalsRequest {
         format,
         is_told: is_given(matches, "progress"),
         trace: trace(matches)?,
-    }))
+    })
 }

@@ -2,7 +2,7 @@
 -- Transactions on Storage 2017): how often pages were used, in little memory. It has four rows of counts, and a page has one in each row,
 -- at a place that its number gives; pages may share counts. Sentences of the publication stand
 -- beside the equations as they were remembered. Its doorkeeper, which holds pages that were used once, is left out, as its authors allow.
-use Rattle.std.specs.Prelude.{ℕ, suc, ◌+◌, ◌*◌, ◌/◌, ◌%◌, ◌^◌, ◌==◌, cond, nat_lt, min, List, map, slice_index_or, slice_set}
+use Rattle.std.specs.Prelude.{ℕ, ◌+◌, ◌*◌, ◌/◌, ◌%◌, ◌==◌, cond, nat_lt, min, List, map, slice_index_or, slice_set}
 use Rattle.clock_policy.specs.declared.key.Key.{Key}
 use Rattle.page_policies.specs.Spread.{spread}
 use Rattle.tiny_lfu.specs.declared.places.Places.{Places}

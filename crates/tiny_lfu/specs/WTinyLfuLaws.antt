@@ -1,9 +1,8 @@
 -- The counter of W-TinyLFU as its definition sees it.
-use Rattle.std.specs.Prelude.{◌≡◌, ℕ, ◌*◌, Bool, true, false, cond, List, [], replicate}
+use Rattle.std.specs.Prelude.{cond}
 use Rattle.clock_policy.specs.declared.key.Key.{Key}
-use Rattle.page_policies.specs.Strings.{holds, misses}
 use Rattle.tiny_lfu.specs.SketchLaws.{sketch_of}
-use Rattle.tiny_lfu.specs.WTinyLfu.{WTinyLfuState, used, brought, noted, in_w_tiny_lfu, w_tiny_lfu, w_tiny_lfu_misses}
+use Rattle.tiny_lfu.specs.WTinyLfu.{WTinyLfuState, used, in_w_tiny_lfu}
 use Rattle.tiny_lfu.specs.declared.shares.TinyLfuRooms.{TinyLfuRooms}
 use Rattle.tiny_lfu.specs.declared.w_tiny_lfu_state.WTinyLfu.{WTinyLfu}
 

@@ -1,9 +1,9 @@
 //! W-TinyLFU.
 
 ghost use Rattle.std.specs.Prelude.{◌≡◌, ◌+◌, ◌*◌, ◌<◌, ◌≤◌, refl, length, nat_lt, Some, IfOk};
-ghost use Rattle.std.specs.Prelude.{List, OnOk};
+ghost use Rattle.std.specs.Prelude.{List, OnOk, OnErr, cond, true, false};
 ghost use Rattle.clock_policy.specs.declared.key.Key.{Key};
-ghost use Rattle.page_policies.specs.Strings.{misses as misses_by};
+ghost use Rattle.page_policies.specs.Strings.{holds, misses as misses_by};
 ghost use Rattle.tiny_lfu.specs.Sketch.{estimate};
 ghost use Rattle.tiny_lfu.specs.WTinyLfu.{rooms_of, usual_shares, settled};
 ghost use Rattle.tiny_lfu.specs.WTinyLfu.{promoted, victim, victim_out, let_in, contested};
@@ -69,6 +69,8 @@ impl WTinyLfu {
         ensures hit { IfOk result (λ hit. hit ≡ in_w_tiny_lfu page (lists_of self.old)) }
         ensures lists { OnOk result (lists_of self.new ≡ touched self.old.rooms page (lists_of
             self.old)) }
+        ensures memory { OnErr result (cond (holds page self.old.protected) true (holds page
+            self.old.window) ≡ false) }
         ensures rooms { self.new.rooms ≡ self.old.rooms }
     {
         if self.protected.touch(page) {
@@ -180,6 +182,8 @@ impl WTinyLfu {
         ensures hit { IfOk result (λ hit. hit ≡ in_w_tiny_lfu page (lists_of self.old)) }
         ensures lists { OnOk result (lists_of self.new ≡ w_tiny_lfu self.old.rooms page (lists_of
             self.old)) }
+        ensures memory { OnErr result (cond (holds page self.old.protected) true (holds page
+            self.old.window) ≡ false) }
         ensures rooms { self.new.rooms ≡ self.old.rooms }
     {
         self.count_use(page);
@@ -198,6 +202,9 @@ impl Policy for WTinyLfu {
         (lists_of policy) string };
 
     ghost refuses = { λ number. ⊥ };
+
+    ghost grows = { λ policy page. cond (holds page policy.protected) true (holds page
+        policy.window) ≡ false };
 
     ghost none_to_miss = { λ policy. refl };
 

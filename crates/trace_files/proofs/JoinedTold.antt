@@ -1,5 +1,5 @@
 -- What is told of neighbours to one page.
-use Rattle.std.proofs.Common.{◌≡◌, ◌∙◌, ℕ, List, Option, None, Some, Ok, IfSome, ap, refl, sym}
+use Rattle.std.proofs.Common.{◌≡◌, ◌∙◌, ℕ, List, Option, None, Some, Ok, IfSome, ap, sym}
 use Rattle.std.specs.Option.{option_map}
 use Rattle.guest_strings.specs.declared.reference.Reference.{Reference}
 use Rattle.trace_files.specs.References.{Trace, Ends, Gives, joined}

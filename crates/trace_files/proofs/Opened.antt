@@ -1,11 +1,11 @@
 -- What a trace tells that was just opened.
-use Rattle.std.proofs.Common.{◌≡◌, ◌∙◌, ℕ, ◌==◌, Bool, true, false, cond, List, [], ◌++◌, Option, None, Some, ap, arith, refl, sym}
+use Rattle.std.proofs.Common.{◌≡◌, ◌∙◌, ℕ, ◌==◌, Bool, false, cond, List, [], Option, None, Some, ap, arith, refl, sym}
 use Rattle.std.proofs.lemmas.Bool.Decides.{nat_tests}
 use Rattle.std.specs.Io.Buffered.{reader_buffer, reader_capacity, reader_inner, reader_remaining}
 use Rattle.std.specs.Io.KnownBytes.{prepend_known}
 use Rattle.std.specs.Option.{option_map}
 use Rattle.std.specs.declared.io.buffered.BufReader.{BufReader}
-use Rattle.trace_files.specs.References.{Trace, trace_of}
+use Rattle.trace_files.specs.References.{trace_of}
 use Rattle.trace_files.specs.ReferenceAnswers.{IsAtFront, to_come}
 use Rattle.trace_lines.specs.declared.format.TraceFormat.{TraceFormat}
 use Rattle.trace_files.specs.declared.trace_file.TraceFile.{TraceFile}

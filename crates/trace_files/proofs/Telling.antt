@@ -1,11 +1,10 @@
 -- What is told when one line or record after another is read.
-use Rattle.std.proofs.Common.{◌≡◌, ◌∙◌, ℕ, true, false, List, [], ◌∷◌, Option, None, Some, Result, Ok, Err, IfSome, ap, refl, subst, sym}
+use Rattle.std.proofs.Common.{◌≡◌, ◌∙◌, ℕ, true, false, List, [], ◌∷◌, Option, None, Some, Result, Ok, Err, IfSome, ap, subst, sym}
 use Rattle.std.specs.Option.{option_map}
 use Rattle.guest_strings.specs.declared.reference.Reference.{Reference}
 use Rattle.trace_files.specs.References.{Flaw, Trace, Ends, Breaks, Gives}
-use Rattle.trace_files.specs.ReferenceAnswers.{BreaksBy, IsOutside, IsOver, Passes, TakesPiece, Tells}
+use Rattle.trace_files.specs.ReferenceAnswers.{BreaksBy, IsOver, Passes, TakesPiece, Tells}
 use Rattle.trace_files.specs.declared.fault.TraceFault.{TraceFault}
-use Rattle.trace_files.specs.declared.fault.TraceFault.TheVariants.{NoMemory, CannotRead, Empty, NoColumn, Line, Text, Record, Compressed}
 
 -- a piece that was taken, of bytes that are told piece by piece
 module _ (cut : List ℕ → List (List ℕ)) (before after : List (List ℕ) → Trace) where

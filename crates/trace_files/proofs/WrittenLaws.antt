@@ -1,13 +1,13 @@
 -- Records that are written one after another: proofs.
-use Rattle.std.specs.Prelude.{◌≡◌, ℕ, zero, suc, ◌+◌, ◌<◌, ◌≤◌, List, [], ◌∷◌, ◌++◌, length, drop, slice_index_or, Option, Some, None, refl}
+use Rattle.std.specs.Prelude.{◌≡◌, ℕ, zero, suc, ◌+◌, ◌<◌, List, [], ◌∷◌, ◌++◌, length, drop, slice_index_or, Option}
 use Rattle.std.proofs.Common.{arith, sym, ap, subst, ◌∙◌}
 use Rattle.std.proofs.lemmas.List.{append_assoc}
-use Rattle.std.proofs.KnownBytes.{Appends-nil, Appends-trans}
+use Rattle.std.proofs.KnownBytes.{Appends-trans}
 use Rattle.std.specs.Io.KnownBytes.{Appends}
 use Rattle.clock_policy.specs.declared.key.Key.{Key}
 use Rattle.page_policies.specs.Optimal.{next_use}
 use Rattle.page_policies.specs.NextUses.{next_uses}
-use Rattle.whole_strings.specs.PlaceStepLaws.{Uncovered, uncover, length_uses}
+use Rattle.whole_strings.specs.PlaceStepLaws.{Uncovered, uncover}
 use Rattle.byteorder.specs.Endian.{little_bytes}
 use Rattle.trace_lines.specs.PageIds.{id_of}
 use Rattle.trace_files.specs.Written.{short_time, next_time, record_bytes, records}

@@ -4,7 +4,6 @@ use Rattle.std.specs.Borrow.{Bor}
 use Rattle.std.specs.Io.Buffered.{reader_inner, reader_remaining}
 use Rattle.std.specs.Option.{option_map}
 use Rattle.std.specs.declared.io.buffered.BufReader.{BufReader}
-use Rattle.text_lines.specs.Text.{lines_of}
 use Rattle.clock_policy.specs.declared.key.Key.{Key}
 use Rattle.guest_strings.specs.declared.reference.Reference.{Reference}
 use Rattle.trace_files.specs.References.{Flaw, NoIds, BadLine, IsText, BadRecord, IsCompressed, Trace, Ends, Breaks, told, flaw_at_end, due_from, is_of_addresses, joined, lines, pieces_of, trace_of}

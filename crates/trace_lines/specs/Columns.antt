@@ -1,5 +1,5 @@
 -- Lines of columns.
-use Rattle.std.specs.Prelude.{ℕ, suc, ◌+◌, ◌-◌, ◌==◌, ◌&&◌, ◌||◌, Bool, true, false, not, nat_eq, nat_lt, List, [], ◌∷◌, length, take, drop, codes, slice_get, slice_range, Option, Some, None, unwrap_or, if◌then◌else◌}
+use Rattle.std.specs.Prelude.{ℕ, suc, ◌-◌, ◌==◌, ◌&&◌, ◌||◌, Bool, false, not, nat_eq, nat_lt, List, [], ◌∷◌, length, take, drop, codes, slice_get, slice_range, Option, Some, None, unwrap_or, if◌then◌else◌}
 use Rattle.std.specs.Option.{option_map, option_and_then}
 use Rattle.std.specs.List.{position_from, prefix_len, suffix_len, starts_with, ends_with}
 use Rattle.std.specs.Char.{is_ascii_whitespace}

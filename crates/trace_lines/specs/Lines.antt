@@ -17,7 +17,6 @@ use Rattle.trace_lines.specs.declared.format.IdKind.{IdKind}
 use Rattle.trace_lines.specs.declared.format.IdKind.TheVariants.{Unknown, Numbers, Words}
 use Rattle.trace_lines.specs.declared.format.TraceFormat.{TraceFormat}
 use Rattle.trace_lines.specs.declared.format.TraceFormat.TheVariants.{Text, Csv, Columns, OracleGeneral, Lackey, DynamoRio}
-use Rattle.trace_lines.specs.declared.trace_line.LineReferences.{LineReferences}
 use Rattle.trace_lines.specs.declared.trace_line.TraceLine.{TraceLine}
 use Rattle.trace_lines.specs.declared.trace_line.TraceLine.TheVariants.{Refers, Word, LeftOut, Names}
 

@@ -10,7 +10,7 @@ use Rattle.page_policies.specs.PartLaws.{number_append, holds_append, there_firs
 use Rattle.younger_policies.specs.TwoQueues.{out_with}
 use Rattle.younger_policies.specs.declared.lirs_shares.LirsShares.{LirsShares}
 use Rattle.younger_policies.specs.declared.lirs_shares.LirsRooms.{LirsRooms}
-use Rattle.younger_policies.specs.Lirs.{LirsState, most_lir, rooms_of, is_bottom_lir, is_over, apart, without_bottom, pruned, demoted, made_lir, kept_hir, promoted, becomes_lir, cut, placed, gone_with, room_made, lir_used, hir_used, in_lirs, lirs, lirs_misses}
+use Rattle.younger_policies.specs.Lirs.{LirsState, rooms_of, is_bottom_lir, is_over, apart, without_bottom, pruned, demoted, made_lir, kept_hir, promoted, becomes_lir, cut, placed, gone_with, room_made, lir_used, hir_used, in_lirs, lirs, lirs_misses}
 
 -- the pages in frames
 abbrev pages : LirsState → List Key

@@ -1,5 +1,5 @@
 -- Which answers make room for a page that is refused while each frame has its page.
-use Rattle.std.specs.Prelude.{◌≡◌, ℕ, ◌+◌, ◌≤◌, ◌==◌, ◌&&◌, Bool, true, false, cond, not, Option, Some, None, Result, Ok, Err, refl}
+use Rattle.std.specs.Prelude.{◌≡◌, ℕ, ◌+◌, ◌==◌, ◌&&◌, Bool, true, false, cond, not, Option, Some, None, Result, Ok, Err, refl}
 use Rattle.std.proofs.Common.{arith, sym, ap, inl, inr, ◌∙◌}
 use Rattle.std.proofs.lemmas.Bool.Decides.{nat_tests}
 use Rattle.clock_policy.specs.declared.key.Key.{Key}

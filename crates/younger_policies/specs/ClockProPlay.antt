@@ -51,6 +51,12 @@ makes_room (Ok GoOn) = false
 makes_room (Ok (Victim k)) = true
 makes_room (Err e) = false
 
+-- Whether a reference may want memory: one to a page that the list does not know, or that is in no frame where each frame has its page;
+-- and one to a page in a frame that was not used since the list last asked for it.
+abbrev pub wants_by : Option EntryKind → Bool → Bool → Bool
+wants_by None is_full used = true
+wants_by (Some kind) is_full used = cond (is_shadow kind) is_full (not used)
+
 abbrev pub entered : Key → Play → Play
 entered p s = record { clock = (admitted p s.clock).0; used = s.used }
 

@@ -1,5 +1,5 @@
 -- The counter of LIRS as its definition sees it.
-use Rattle.std.specs.Prelude.{◌≡◌, ℕ, suc, ◌+◌, ◌-◌, ◌<◌, Bool, true, false, cond, List}
+use Rattle.std.specs.Prelude.{◌≡◌, ℕ, suc, ◌+◌, ◌-◌, ◌<◌, Bool, false, cond, List}
 use Rattle.std.proofs.Common.{arith, sym, ap, ◌∙◌}
 use Rattle.clock_policy.specs.declared.key.Key.{Key}
 use Rattle.page_policies.specs.Ordered.{last_of}

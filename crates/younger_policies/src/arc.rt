@@ -1,6 +1,6 @@
 //! ARC.
 
-ghost use Rattle.std.specs.Prelude.{◌≡◌, ◌≤◌, ◌+◌, refl, true, false, cond, length, IfOk, OnOk};
+ghost use Rattle.std.specs.Prelude.{◌≡◌, ◌≤◌, ◌+◌, refl, true, false, cond, length, IfOk, OnOk, OnErr};
 ghost use Rattle.page_policies.specs.Strings.{misses as misses_by, holds};
 ghost use Rattle.younger_policies.specs.Arc.{step_of, takes_first, first_out, second_out, replaced};
 ghost use Rattle.younger_policies.specs.Arc.{hit, grown, shrunk, from_first, from_second, new_page};
@@ -202,6 +202,7 @@ impl Arc {
         ensures hit { IfOk result (λ hit. hit ≡ in_arc page (lists_of self.old)) }
         ensures lists { OnOk result (lists_of self.new ≡ arc self.old.frames page (lists_of
             self.old)) }
+        ensures memory { OnErr result (holds page self.old.t2 ≡ false) }
         ensures frames { self.new.frames ≡ self.old.frames }
     {
         if self.t2.touch(page) {
@@ -222,6 +223,8 @@ impl Policy for Arc {
     ghost to_miss = { λ policy string. misses_by in_arc (arc policy.frames) (lists_of policy) string };
 
     ghost refuses = { λ number. ⊥ };
+
+    ghost grows = { λ policy page. holds page policy.t2 ≡ false };
 
     ghost none_to_miss = { λ policy. refl };
 

@@ -1,13 +1,13 @@
 //! CLOCK-Pro.
 
-ghost use Rattle.std.specs.Prelude.{◌≡◌, ◌<◌, ◌⊎◌, ◌↔◌, refl, cond, true, not, Err, IfOk, OnOk};
+ghost use Rattle.std.specs.Prelude.{◌≡◌, ◌<◌, ◌⊎◌, ◌↔◌, refl, cond, true, false, not, Err, None, IfOk, OnOk, OnErr};
 ghost use Rattle.std.specs.HashSet.{contains};
 ghost use Rattle.clock_policy.specs.declared.key.Key.{Key};
 ghost use Rattle.clock_policy.specs.ClockPro.{kind_of, question_of, admitted, opening_state};
 ghost use Rattle.clock_policy.specs.FrameCounts.{least_frames, most_frames};
 ghost use Rattle.page_policies.specs.Strings.{is_page, misses as misses_by};
 ghost use Rattle.younger_policies.specs.ClockProPlay.{is_resident_kind, in_play, bit_of, asked};
-ghost use Rattle.younger_policies.specs.ClockProPlay.{is_full_refusal, makes_room, placed};
+ghost use Rattle.younger_policies.specs.ClockProPlay.{is_full_refusal, makes_room, placed, wants_by};
 ghost use Rattle.younger_policies.specs.ClockProPlay.{marked_used, clock_pro, clock_pro_misses};
 ghost use Rattle.younger_policies.specs.PlayLaws.{play_of};
 
@@ -82,6 +82,7 @@ fn enter<C: Clock>(clock: &mut C, page: Key) -> Result<bool, AllocError>
     ensures full { IfOk result (λ full. full ≡ is_full_refusal
         (admitted page (C.state clock.old)).1) }
     ensures moved { OnOk result (C.state clock.new ≡ (admitted page (C.state clock.old)).0) }
+    ensures memory { OnErr result (kind_of page (C.state clock.old).entries ≡ None) }
 {
     match clock.admit(page) {
         Ok(_) => Ok(false),
@@ -101,8 +102,10 @@ pub(crate) fn place<C: Clock>(
     turns: usize,
     page: Key,
 ) -> Result<(), AllocError>
-    ensures { OnOk result (play_of (C.state clock.new) used.new ≡ placed turns page
+    ensures placed { OnOk result (play_of (C.state clock.new) used.new ≡ placed turns page
         (play_of (C.state clock.old) used.old)) }
+    ensures memory { OnErr result ((kind_of page (C.state clock.old).entries ≡ None) ⊎
+        (is_full_refusal (admitted page (C.state clock.old)).1 ≡ true)) }
 {
     if !enter(clock, page)? {
         return Ok(());
@@ -118,8 +121,9 @@ pub(crate) fn place<C: Clock>(
 
 /// The page is marked as used.
 pub(crate) fn mark_used(used: &mut HashSet<Key>, page: Key) -> Result<(), AllocError>
-    ensures { OnOk result ((q : Key) → contains is_page used.new q ≡ cond (is_page page q) true
-        (contains is_page used.old q)) }
+    ensures marked { OnOk result ((q : Key) → contains is_page used.new q ≡ cond (is_page page q)
+        true (contains is_page used.old q)) }
+    ensures memory { OnErr result (contains is_page used.old page ≡ false) }
 {
     match used.insert(page) {
         Ok(_) => Ok(()),
@@ -134,6 +138,10 @@ impl<C: Clock> Policy for ClockPro<C> {
         (play_of (C.state policy.clock) policy.used) string };
 
     ghost refuses = { λ number. (number < least_frames) ⊎ (most_frames < number) };
+
+    ghost grows = { λ policy page. wants_by (kind_of page (C.state policy.clock).entries)
+        (is_full_refusal (admitted page (C.state policy.clock)).1) (contains is_page policy.used
+        page) ≡ true };
 
     ghost none_to_miss = { λ policy. refl };
 

@@ -1,8 +1,9 @@
 //! CLOCK-Pro as the machine plays it.
 
-ghost use Rattle.std.specs.Prelude.{◌≡◌, ◌<◌, ◌⊎◌, refl};
+ghost use Rattle.std.specs.Prelude.{◌≡◌, ◌<◌, ◌⊎◌, refl, true, false};
+ghost use Rattle.std.specs.HashSet.{contains};
 ghost use Rattle.clock_policy.specs.FrameCounts.{least_frames, most_frames};
-ghost use Rattle.page_policies.specs.Strings.{misses as misses_by};
+ghost use Rattle.page_policies.specs.Strings.{is_page, misses as misses_by};
 ghost use Rattle.younger_policies.specs.ClockProPlay.{in_play, clock_pro_used};
 ghost use Rattle.younger_policies.specs.ClockProPlay.{clock_pro_used_misses};
 ghost use Rattle.younger_policies.specs.PlayLaws.{play_of};
@@ -29,6 +30,9 @@ impl<C: Clock> Policy for ClockProUsed<C> {
         (play_of (C.state policy.clock) policy.used) string };
 
     ghost refuses = { λ number. (number < least_frames) ⊎ (most_frames < number) };
+
+    ghost grows = { λ policy page. in_play page (play_of (C.state policy.clock) policy.used) ≡ true →
+        contains is_page policy.used page ≡ false };
 
     ghost none_to_miss = { λ policy. refl };
 

@@ -1,6 +1,6 @@
 //! LIRS.
 
-ghost use Rattle.std.specs.Prelude.{◌≡◌, ◌+◌, ◌<◌, refl, cond, length, nat_lt, List, Some, IfOk, OnOk};
+ghost use Rattle.std.specs.Prelude.{◌≡◌, ◌+◌, ◌<◌, refl, cond, true, false, length, nat_lt, List, Some, IfOk, OnOk, OnErr};
 ghost use Rattle.clock_policy.specs.declared.key.Key.{Key};
 ghost use Rattle.page_policies.specs.Strings.{holds, without, misses as misses_by};
 ghost use Rattle.page_policies.specs.Ordered.{last_of, to_front};
@@ -31,7 +31,8 @@ pub struct Lirs {
 
 /// The page comes to the front of the stack, in which it mostly is.
 fn renew(stack: &mut Queue, page: Key) -> Result<(), AllocError>
-    ensures { OnOk result (stack.new ≡ to_front page stack.old) }
+    ensures order { OnOk result (stack.new ≡ to_front page stack.old) }
+    ensures memory { OnErr result (holds page stack.old ≡ false) }
 {
     if stack.touch(page) {
         return Ok(());
@@ -231,6 +232,7 @@ impl Lirs {
         ensures found { IfOk result (λ found. found ≡ holds page self.old.lir) }
         ensures lists { OnOk result (lists_of self.new ≡ cond (holds page self.old.lir) (lir_used
             page (lists_of self.old)) (lists_of self.old)) }
+        ensures memory { OnErr result (holds page self.old.stack ≡ false) }
         ensures rooms { self.new.rooms ≡ self.old.rooms }
     {
         if !self.lir.touch(page) {
@@ -247,6 +249,8 @@ impl Lirs {
         ensures hit { IfOk result (λ hit. hit ≡ in_lirs page (lists_of self.old)) }
         ensures lists { OnOk result (lists_of self.new ≡ lirs self.old.rooms page (lists_of
             self.old)) }
+        ensures memory { OnErr result (holds page self.old.lir ≡ true → holds page self.old.stack ≡
+            false) }
         ensures rooms { self.new.rooms ≡ self.old.rooms }
     {
         if self.use_lir(page)? {
@@ -269,6 +273,8 @@ impl Policy for Lirs {
         string };
 
     ghost refuses = { λ number. ⊥ };
+
+    ghost grows = { λ policy page. holds page policy.lir ≡ true → holds page policy.stack ≡ false };
 
     ghost none_to_miss = { λ policy. refl };
 

@@ -1,7 +1,7 @@
 //! S3-FIFO.
 
 ghost use Rattle.std.specs.Prelude.{◌≡◌, ◌+◌, ◌*◌, ◌<◌, refl, cond, true, false, length, min};
-ghost use Rattle.std.specs.Prelude.{nat_lt, List, IfOk, OnOk};
+ghost use Rattle.std.specs.Prelude.{nat_lt, List, None, IfOk, OnOk, OnErr};
 ghost use Rattle.std.specs.HashMap.{get};
 ghost use Rattle.clock_policy.specs.declared.key.Key.{Key};
 ghost use Rattle.page_policies.specs.Strings.{is_page, misses as misses_by};
@@ -61,7 +61,8 @@ fn set_count(freq: &mut HashMap<Key, u8>, page: Key, count: u8) -> Result<(), Al
 
 /// One use more of a page, three at most.
 fn raise_count(freq: &mut HashMap<Key, u8>, page: Key) -> Result<(), AllocError>
-    ensures { OnOk result ((q : Key) → known (get is_page freq.new q) ≡ cond (is_page page q) (min
+    ensures memory { OnErr result (get is_page freq.old page ≡ None) }
+    ensures counts { OnOk result ((q : Key) → known (get is_page freq.new q) ≡ cond (is_page page q) (min
         (known (get is_page freq.old page) + 1) 3) (known (get is_page freq.old q))) }
 {
     match freq.get_mut(&page) {
@@ -295,6 +296,7 @@ impl S3Fifo {
     /// A page that is there was used.
     fn note_use(&mut self, page: Key) -> Result<(), AllocError>
         ensures queues { OnOk result (queues_of self.new ≡ used page (queues_of self.old)) }
+        ensures memory { OnErr result (get is_page self.old.freq page ≡ None) }
         ensures rooms { self.new.rooms ≡ self.old.rooms }
     {
         raise_count(&mut self.freq, page)
@@ -315,6 +317,8 @@ impl S3Fifo {
         ensures hit { IfOk result (λ hit. hit ≡ in_s3_fifo page (queues_of self.old)) }
         ensures queues { OnOk result (queues_of self.new ≡ s3_fifo self.old.rooms page (queues_of
             self.old)) }
+        ensures memory { OnErr result (in_s3_fifo page (queues_of self.old) ≡ true →
+            get is_page self.old.freq page ≡ None) }
         ensures rooms { self.new.rooms ≡ self.old.rooms }
     {
         if !self.is_there(page) {
@@ -334,6 +338,9 @@ impl Policy for S3Fifo {
         (queues_of policy) string };
 
     ghost refuses = { λ number. ⊥ };
+
+    ghost grows = { λ policy page. in_s3_fifo page (queues_of policy) ≡ true →
+        get is_page policy.freq page ≡ None };
 
     ghost none_to_miss = { λ policy. refl };
 

@@ -1,6 +1,7 @@
 //! SIEVE.
 
-ghost use Rattle.std.specs.Prelude.{◌≡◌, ◌+◌, ◌<◌, refl, cond, true, false, length, IfOk, OnOk};
+ghost use Rattle.std.specs.Prelude.{◌≡◌, ◌+◌, ◌<◌, refl, cond, true, false, length, IfOk};
+ghost use Rattle.std.specs.Prelude.{OnOk, OnErr};
 ghost use Rattle.std.specs.HashSet.{contains};
 ghost use Rattle.clock_policy.specs.declared.key.Key.{Key};
 ghost use Rattle.page_policies.specs.Strings.{is_page, misses as misses_by};
@@ -129,6 +130,7 @@ impl Sieve {
     /// A page that is there was used.
     fn visit(&mut self, page: Key) -> Result<(), AllocError>
         ensures queue { OnOk result (queue_of self.new ≡ visit page (queue_of self.old)) }
+        ensures memory { OnErr result (contains is_page self.old.visited page ≡ false) }
         ensures frames { self.new.frames ≡ self.old.frames }
     {
         match self.visited.insert(page) {
@@ -152,6 +154,8 @@ impl Sieve {
         ensures hit { IfOk result (λ hit. hit ≡ in_sieve page (queue_of self.old)) }
         ensures queue { OnOk result (queue_of self.new ≡ sieve self.old.frames page (queue_of
             self.old)) }
+        ensures memory { OnErr result (in_sieve page (queue_of self.old) ≡ true →
+            contains is_page self.old.visited page ≡ false) }
         ensures frames { self.new.frames ≡ self.old.frames }
     {
         if !self.is_there(page) {
@@ -171,6 +175,9 @@ impl Policy for Sieve {
         string };
 
     ghost refuses = { λ number. ⊥ };
+
+    ghost grows = { λ policy page. in_sieve page (queue_of policy) ≡ true →
+        contains is_page policy.visited page ≡ false };
 
     ghost none_to_miss = { λ policy. refl };
 

@@ -1,6 +1,6 @@
 //! 2Q.
 
-ghost use Rattle.std.specs.Prelude.{◌≡◌, ◌≤◌, ◌<◌, ◌^◌, refl, length, List, IfOk, OnOk};
+ghost use Rattle.std.specs.Prelude.{◌≡◌, ◌≤◌, ◌<◌, ◌^◌, refl, false, length, List, IfOk, OnOk, OnErr};
 ghost use Rattle.clock_policy.specs.declared.key.Key.{Key};
 ghost use Rattle.page_policies.specs.Strings.{misses as misses_by};
 ghost use Rattle.younger_policies.specs.TwoQueues.{in_two_queues, recent_out, main_out, rooms_of};
@@ -91,6 +91,7 @@ impl TwoQueues {
         ensures hit { IfOk result (λ hit. hit ≡ in_two_queues page (queues_of self.old)) }
         ensures queues { OnOk result (queues_of self.new ≡ two_queues self.old.rooms page
             (queues_of self.old)) }
+        ensures memory { OnErr result (in_two_queues page (queues_of self.old) ≡ false) }
         ensures rooms { self.new.rooms ≡ self.old.rooms }
     {
         if self.am.touch(page) {
@@ -111,6 +112,8 @@ impl Policy for TwoQueues {
         (queues_of policy) string };
 
     ghost refuses = { λ number. ⊥ };
+
+    ghost grows = { λ policy page. in_two_queues page (queues_of policy) ≡ false };
 
     ghost none_to_miss = { λ policy. refl };
 

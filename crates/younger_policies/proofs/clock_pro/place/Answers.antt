@@ -1,4 +1,4 @@
-use Rattle.std.proofs.Common.{◌≡◌, ◌∙◌, ℕ, ◌-◌, ◌+◌, Bool, true, false, not, ap, arith, sym}
+use Rattle.std.proofs.Common.{◌≡◌, ◌∙◌, ℕ, ◌-◌, ◌+◌, false, not, ap, arith, sym}
 use Rattle.clock_policy.specs.ClockPro.{ClockState, admitted}
 use Rattle.younger_policies.specs.ClockProPlay.{Play, is_full_refusal, placed}
 use Rattle.younger_policies.specs.PlayLaws.{play_of, placed_at_once, placed_more, placed_never, refused_same}
@@ -11,8 +11,8 @@ turns-init g c =
       left = ap (λ (n : ℕ). placed n c.args.page (play_of (g.C.Clock.state c.enter.new.clock) c.args.used.now)) (omega arith);
     }
 
-pub returns-then-ask : goal.returns-then-ask
-returns-then-ask g c =
+pub returns-then-ask-clause-placed : goal.returns-then-ask-clause-placed
+returns-then-ask-clause-placed g c =
     let before : Play = play_of (g.C.Clock.state c.turns.clock) c.turns.used in
     let after : Play = play_of (g.C.Clock.state c.ask.new.clock) c.ask.new.used in
     let room : is_full_refusal (admitted c.args.page (g.C.Clock.state c.ask.new.clock)).1 ≡ false = c.ask.ensures.room c.args.page c.turns.invariant.full ∙ ap not c.if-ask.true in
@@ -31,8 +31,8 @@ turns-preserved g c =
       left = placed_more c.args.turns c.turns._turn c.args.page before after c.turns-test.true c.turns.invariant.full c.ask.ensures.moved ∙ c.turns.invariant.left;
     }
 
-pub returns : goal.returns
-returns g c =
+pub returns-clause-placed : goal.returns-clause-placed
+returns-clause-placed g c =
     let before : Play = play_of (g.C.Clock.state c.turns.clock) c.turns.used in
     let none : c.args.turns - c.turns._turn ≡ 0 = omega arith in
     let same : g.C.Clock.state c.enter.new.clock ≡ g.C.Clock.state c.args.clock.now = refused_same c.args.page _ _ c.in_ok-enter.field-0 c.in_ok-enter.ensures.full c.if-not-branch.false c.in_ok-enter.ensures.moved in

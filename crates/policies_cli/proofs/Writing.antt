@@ -1,8 +1,8 @@
 -- Bytes that are written one part after another.
-use Rattle.std.specs.Prelude.{◌≡◌, ℕ, List, [], ◌∷◌, ◌++◌, Option, Some, None, refl}
-use Rattle.std.proofs.Common.{ap, sym, subst, ◌∙◌}
-use Rattle.std.proofs.lemmas.List.{append-nil, append_assoc}
-use Rattle.std.proofs.KnownBytes.{Appends-nil, Appends-trans}
+use Rattle.std.specs.Prelude.{◌≡◌, ℕ, List, ◌++◌, Option, Some}
+use Rattle.std.proofs.Common.{ap, sym, ◌∙◌}
+use Rattle.std.proofs.lemmas.List.{append_assoc}
+use Rattle.std.proofs.KnownBytes.{Appends-trans}
 use Rattle.std.specs.Io.KnownBytes.{Appends}
 use Rattle.std.specs.List.{flat_map}
 use Rattle.guest_strings.specs.ToCome.{listed}
@@ -16,19 +16,12 @@ pub record Goes (old now : Option (List ℕ)) (rest whole : List ℕ) : Type 0 w
   pub appended : Appends old now bytes
   pub parts : bytes ++ rest ≡ whole
 
-pub goes_none : (old : Option (List ℕ)) (whole : List ℕ) → Goes old old whole whole
-goes_none old whole = record { bytes = []; appended = Appends-nil old; parts = refl }
-
 pub goes_on : (old now new : Option (List ℕ)) (rest whole part behind : List ℕ) → Goes old now rest whole → Appends now new part → rest ≡ part ++ behind → Goes old new behind whole
 goes_on old now new rest whole part behind before appends is = record {
   bytes = before.bytes ++ part;
   appended = Appends-trans old now new before.bytes part before.appended appends;
   parts = append_assoc before.bytes part behind ∙ ap (λ (l : List ℕ). before.bytes ++ l) (sym is) ∙ before.parts;
 }
-
-pub goes_end : (old now : Option (List ℕ)) (rest whole : List ℕ) → Goes old now rest whole → rest ≡ [] → Appends old now whole
-goes_end old now rest whole before none =
-    subst (λ (l : List ℕ). Appends old now l) (sym (append-nil before.bytes) ∙ ap (λ (l : List ℕ). before.bytes ++ l) (sym none) ∙ before.parts) before.appended
 
 -- lines of a text
 
@@ -37,10 +30,6 @@ pub line_on : (old now new : Option (List ℕ)) (references behind whole : List 
 line_on old now new references behind whole reference before appends is =
     goes_on old now new (flat_map reference_line references) (flat_map reference_line whole) (reference_line reference) (flat_map reference_line behind) before appends (ap (flat_map reference_line) is)
 
-pub lines_end : (old now : Option (List ℕ)) (references behind whole : List Reference) → Goes old now (flat_map reference_line references) (flat_map reference_line whole)
-    → references ≡ listed None ++ behind → behind ≡ [] → Appends old now (flat_map reference_line whole)
-lines_end old now references behind whole before is none = goes_end old now (flat_map reference_line references) (flat_map reference_line whole) before (ap (flat_map reference_line) (is ∙ none))
-
 -- rows of a table
 
 pub row_on : (old now new : Option (List ℕ)) (time next : ℕ) (references behind : List Reference) (whole : List ℕ) (reference : Reference) → Goes old now (rows_behind time references) whole
@@ -48,7 +37,3 @@ pub row_on : (old now new : Option (List ℕ)) (time next : ℕ) (references beh
 row_on old now new time next references behind whole reference before on appends is =
     goes_on old now new (rows_behind time references) whole (csv_line next reference.page) (rows_behind next behind) before appends
     (ap (rows_behind time) is ∙ ap (λ (n : ℕ). csv_line n reference.page ++ rows_behind n behind) (sym on))
-
-pub rows_end : (old now : Option (List ℕ)) (time : ℕ) (references behind : List Reference) (whole : List ℕ) → Goes old now (rows_behind time references) whole
-    → references ≡ listed None ++ behind → behind ≡ [] → Appends old now whole
-rows_end old now time references behind whole before is none = goes_end old now (rows_behind time references) whole before (ap (rows_behind time) (is ∙ none))

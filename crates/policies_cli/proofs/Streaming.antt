@@ -18,13 +18,13 @@ use Rattle.trace_files.specs.ReferenceAnswers.{ArePages, TellsPages, page_of}
 use Rattle.trace_files.proofs.ManyTold.{all_pages, no_pages, pages_joined}
 use Rattle.policies_cli.specs.Replays.{PlaysNext, ReplaysAsAsked, StreamsAsAsked}
 
-pub plays_none : (trace : Option Trace) (rows : Rows) → PlaysNext trace trace rows rows 0
+pub plays_none : (trace : Option Trace) (table : Rows) → PlaysNext trace trace table table 0
 unfolding RowsPlay
-plays_none trace rows = record {
+plays_none trace table = record {
   pages = [];
   told = no_pages trace;
   many = refl;
-  played = λ policies frames skipped played fit have. subst (λ (l : List Key). HavePlayed policies frames skipped l rows) (sym (append-nil played)) have;
+  played = λ policies frames skipped played fit have. subst (λ (l : List Key). HavePlayed policies frames skipped l table) (sym (append-nil played)) have;
 }
 
 pub plays_on : (block : List Key) (first now later : Option Trace) (s t u : Rows) (count more : ℕ) → PlaysNext first now s t count → TellsPages block now later → length block ≡ more → RowsPlay block t u → PlaysNext first later s u (count + more)

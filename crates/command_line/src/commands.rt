@@ -125,8 +125,8 @@ fn with_file<'a>(
     ensures { (app : App) → Reads app command.entry →
         Reads (with_rule app (file_rule name.now)) result }
 {
-    let arg = file(alloc, name);
-    command?.arg(arg)
+    let command = command?;
+    command.arg(file(alloc, name))
 }
 
 fn file<'a>(alloc: Global, name: &'a str) -> Arg<'a>
@@ -145,8 +145,8 @@ fn with_files<'a>(
     ensures { (app : App) → Reads app command.entry →
         Reads (with_rule app (files_rule name.now)) result }
 {
-    let arg = files(alloc, name);
-    command?.arg(arg)
+    let command = command?;
+    command.arg(files(alloc, name))
 }
 
 fn files<'a>(alloc: Global, name: &'a str) -> Arg<'a>
@@ -167,8 +167,8 @@ fn with_option<'a>(
     ensures { (app : App) → Reads app command.entry →
         Reads (with_rule app (option_rule name.now)) result }
 {
-    let arg = option(alloc, name);
-    command?.arg(arg)
+    let command = command?;
+    command.arg(option(alloc, name))
 }
 
 fn option<'a>(alloc: Global, name: &'a str) -> Arg<'a>
@@ -187,8 +187,8 @@ fn with_flag<'a>(
     ensures { (app : App) → Reads app command.entry →
         Reads (with_rule app (flag_rule name.now)) result }
 {
-    let arg = flag(alloc, name);
-    command?.arg(arg)
+    let command = command?;
+    command.arg(flag(alloc, name))
 }
 
 fn flag<'a>(alloc: Global, name: &'a str) -> Arg<'a>

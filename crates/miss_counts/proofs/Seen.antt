@@ -3,15 +3,8 @@ use Rattle.std.proofs.Common.{◌≡◌, ℕ, ◌+◌, ◌<◌, ◌∷◌, ◌�
 use Rattle.std.proofs.lemmas.List.{drop_more}
 use Rattle.clock_policy.specs.declared.key.Key.{Key}
 use Rattle.page_policies.specs.Strings.{is_page}
-use Rattle.miss_counts.specs.FrameNumbers.{first_uses}
-
--- only what was seen matters
-pub seen_alike : (string : List Key) (f g : Key → Bool) → ((q : Key) → f q ≡ g q) → first_uses f string ≡ first_uses g string
-seen_alike [] f g h = refl
-seen_alike (p ∷ ps) f g h =
-    let rest : first_uses (λ q. cond (is_page p q) true (f q)) ps ≡ first_uses (λ q. cond (is_page p q) true (g q)) ps =
-    seen_alike ps (λ q. cond (is_page p q) true (f q)) (λ q. cond (is_page p q) true (g q)) (λ q. ap (λ b. cond (is_page p q) true b) (h q)) in
-    rw (h p) (rw rest refl)
+use Rattle.whole_strings.specs.PageCounts.{first_uses}
+use Rattle.whole_strings.specs.LruDepthLaws.{seen_alike}
 
 -- one reference more
 pub seen_more : (string : List Key) (i : ℕ) (d : Key) (old new : Key → Bool) → i < length string → ((q : Key) → new q ≡ cond (is_page (slice_index_or string i d) q) true (old q))

@@ -1,8 +1,6 @@
 -- The numbers of frames that a table has.
 use Rattle.std.specs.Prelude.{ℕ, zero, suc, ◌+◌, ◌*◌, ◌/◌, ◌^◌, ◌||◌, Bool, true, false, cond, nat_lt, min, max, List, [], ◌∷◌, map, Option, Some, None}
-use Rattle.clock_policy.specs.declared.key.Key.{Key}
 use Rattle.page_policies.specs.PolicyFrames.{most_policy_frames}
-use Rattle.page_policies.specs.Strings.{is_page}
 use Rattle.miss_counts.specs.declared.table_size.FootprintPart.{FootprintPart}
 use Rattle.miss_counts.specs.declared.table_size.TableSize.{TableSize}
 use Rattle.miss_counts.specs.declared.table_size.TableSize.TheVariants.{Frames, Part}
@@ -15,15 +13,6 @@ doublings pages power (suc more) = 2 ^ power ∷ cond (nat_lt (2 ^ power) pages)
 -- 4, 8, 16 and so on, until each page has a frame, or to 4096
 unfoldable pub usual_numbers : ℕ → List ℕ
 usual_numbers pages = doublings pages 2 11
-
--- how many references of a string are to pages that were not seen before
-abbrev pub first_uses : (Key → Bool) → List Key → ℕ
-first_uses seen [] = 0
-first_uses seen (p ∷ ps) = cond (seen p) 0 1 + first_uses (λ q. cond (is_page p q) true (seen q)) ps
-
--- how many pages a string has
-unfoldable pub page_count : List Key → ℕ
-page_count string = first_uses (λ q. false) string
 
 -- a part of the pages, rounded down: one frame at least, and at most as many as a policy may have
 unfoldable pub part_of : ℕ → FootprintPart → ℕ

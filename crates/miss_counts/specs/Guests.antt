@@ -8,7 +8,8 @@ use Rattle.guest_strings.specs.declared.reference.Reference.{Reference}
 use Rattle.guest_strings.specs.Slices.{guest_string}
 use Rattle.page_policies.specs.declared.frames.Frames.{Frames}
 use Rattle.miss_counts.specs.Counted.{IsRow}
-use Rattle.miss_counts.specs.FrameNumbers.{numbers_asked, page_count}
+use Rattle.miss_counts.specs.FrameNumbers.{numbers_asked}
+use Rattle.whole_strings.specs.PageCounts.{page_count}
 use Rattle.miss_counts.specs.declared.counts.PolicyCounts.{PolicyCounts}
 use Rattle.miss_counts.specs.declared.policy_set.PolicySet.{PolicySet}
 use Rattle.miss_counts.specs.declared.table_size.TableSize.{TableSize}

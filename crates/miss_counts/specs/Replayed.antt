@@ -5,7 +5,8 @@ use Rattle.clock_policy.specs.declared.key.Key.{Key}
 use Rattle.page_policies.specs.Optimal.{optimal_misses}
 use Rattle.page_policies.specs.declared.frames.Frames.{Frames}
 use Rattle.miss_counts.specs.Counted.{IsCounted, asked, misses_of, serves}
-use Rattle.miss_counts.specs.FrameNumbers.{frames_for, page_count}
+use Rattle.miss_counts.specs.FrameNumbers.{frames_for}
+use Rattle.whole_strings.specs.PageCounts.{page_count}
 use Rattle.miss_counts.specs.contracts.any_player.AnyPlayerCounting.TheImpl as any
 use Rattle.miss_counts.specs.declared.any_player.AnyPlayer.{AnyPlayer}
 use Rattle.miss_counts.specs.declared.counts.PolicyCounts.{PolicyCounts}

@@ -5,7 +5,8 @@ ghost use Rattle.std.specs.Prelude.{option_map};
 ghost use Rattle.guest_strings.specs.ToCome.{to_come};
 ghost use Rattle.miss_counts.specs.Counted.{is_counted};
 ghost use Rattle.miss_counts.specs.Guests.{IsTable, guest_pages, pages_of};
-ghost use Rattle.miss_counts.specs.FrameNumbers.{numbers_asked, page_count};
+ghost use Rattle.miss_counts.specs.FrameNumbers.{numbers_asked};
+ghost use Rattle.whole_strings.specs.PageCounts.{page_count};
 
 use crate::counts::{PolicyCounts, rows_of};
 use crate::frame_numbers::usual_frames;

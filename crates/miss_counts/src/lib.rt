@@ -19,7 +19,7 @@ pub use any_player::AnyPlayer;
 pub use counts::{PolicyCount, PolicyCounts, rows_of};
 pub use frame_numbers::usual_frames;
 pub use guests::{guest_rows, pages_of};
-pub use page_counts::count_pages;
+pub use page_counts::{count_pages, see};
 pub use play_count::{PlayCount, counts_by};
 pub use player::Counting;
 pub use policy_name::{PolicyName, any_served};

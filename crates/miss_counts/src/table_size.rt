@@ -1,7 +1,8 @@
 //! Numbers of frames as they are asked for.
 
 ghost use Rattle.std.specs.Prelude.{◌≡◌, IfOk, map};
-ghost use Rattle.miss_counts.specs.FrameNumbers.{frames_for, has_part, page_count, part_of};
+ghost use Rattle.miss_counts.specs.FrameNumbers.{frames_for, has_part, part_of};
+ghost use Rattle.whole_strings.specs.PageCounts.{page_count};
 
 use crate::page_counts::count_pages;
 use clock_policy::Key;

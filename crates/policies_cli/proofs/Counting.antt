@@ -5,7 +5,7 @@ use Rattle.std.proofs.Common.{arith, ap, sym, ◌∙◌}
 use Rattle.std.proofs.lemmas.List.{length-append, map-append}
 use Rattle.clock_policy.specs.declared.key.Key.{Key}
 use Rattle.guest_strings.specs.declared.reference.Reference.{Reference}
-use Rattle.miss_counts.specs.FrameNumbers.{first_uses, page_count}
+use Rattle.whole_strings.specs.PageCounts.{first_uses, page_count}
 use Rattle.miss_counts.specs.Guests.{pages_of}
 use Rattle.page_policies.specs.Strings.{is_page}
 use Rattle.trace_files.specs.References.{Trace, Gives}

@@ -6,7 +6,8 @@ use Rattle.std.proofs.lemmas.List.{length-append, take-append-drop}
 use Rattle.clock_policy.specs.declared.key.Key.{Key}
 use Rattle.page_policies.specs.declared.frames.Frames.{Frames}
 use Rattle.miss_counts.specs.Counted.{IsRow}
-use Rattle.miss_counts.specs.FrameNumbers.{frames_for, page_count}
+use Rattle.miss_counts.specs.FrameNumbers.{frames_for}
+use Rattle.whole_strings.specs.PageCounts.{page_count}
 use Rattle.miss_counts.specs.Replayed.{HavePlayed, IsReplayed, RowsPlay, RowsSkip, RowsTell}
 use Rattle.miss_counts.specs.declared.counts.PolicyCounts.{PolicyCounts}
 use Rattle.miss_counts.specs.declared.policy_set.PolicySet.{PolicySet}

@@ -5,7 +5,8 @@ use Rattle.std.proofs.Common.{arith, ap, sym, subst, ◌∙◌}
 use Rattle.std.proofs.lemmas.List.{append-nil, append_assoc, length-append}
 use Rattle.clock_policy.specs.declared.key.Key.{Key}
 use Rattle.page_policies.specs.declared.frames.Frames.{Frames}
-use Rattle.miss_counts.specs.FrameNumbers.{frames_for, has_part, page_count}
+use Rattle.miss_counts.specs.FrameNumbers.{frames_for, has_part}
+use Rattle.whole_strings.specs.PageCounts.{page_count}
 use Rattle.miss_counts.specs.Replayed.{HavePlayed, IsReplayed, RowsPlay, RowsSkip, RowsTell}
 use Rattle.miss_counts.specs.declared.counts.PolicyCounts.{PolicyCounts}
 use Rattle.miss_counts.specs.declared.policy_name.PolicyName.{PolicyName}

@@ -4,7 +4,8 @@ use Rattle.std.specs.Option.{option_map}
 use Rattle.std.specs.List.{AllZip}
 use Rattle.clock_policy.specs.declared.key.Key.{Key}
 use Rattle.guest_strings.specs.declared.reference.Reference.{Reference}
-use Rattle.miss_counts.specs.FrameNumbers.{frames_for, page_count}
+use Rattle.miss_counts.specs.FrameNumbers.{frames_for}
+use Rattle.whole_strings.specs.PageCounts.{page_count}
 use Rattle.miss_counts.specs.Guests.{pages_of}
 use Rattle.miss_counts.specs.Replayed.{HavePlayed, IsReplayed, IsReplayTable, RowsPlay}
 use Rattle.miss_counts.specs.declared.counts.PolicyCounts.{PolicyCounts}

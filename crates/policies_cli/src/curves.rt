@@ -1,10 +1,12 @@
 //! What is counted of a trace with every number of frames, or with every window.
 
-ghost use Rattle.std.specs.Prelude.{◌≡◌, ◌≤◌, length, IfOk};
+ghost use Rattle.std.specs.Prelude.{◌≡◌, ◌≤◌, ◌<◌, ℕ, length, IfOk, IfErr};
 ghost use Rattle.page_policies.specs.PolicyFrames.{most_policy_frames};
 ghost use Rattle.whole_strings.specs.LruDepths.{IsLruCurve};
 ghost use Rattle.whole_strings.specs.OptimumCurve.{IsOptimumCurve};
+ghost use Rattle.whole_strings.specs.PageCounts.{page_count};
 ghost use Rattle.policies_cli.specs.Curves.{AreCurves, AreWindows, IsEstimate, OptimumWhere};
+ghost use Rattle.policies_cli.specs.declared.wrong.Wrong.TheVariants.{ManyPages};
 
 use crate::wrong::Wrong;
 use clock_policy::Key;
@@ -45,7 +47,9 @@ pub(crate) fn curves_of<'a>(
     string: &[Key],
     has_optimum: bool,
 ) -> Result<Curves, Wrong<'a>>
-    ensures { IfOk result (AreCurves has_optimum string.now) }
+    ensures curves { IfOk result (AreCurves has_optimum string.now) }
+    ensures refused { IfErr result (λ wrong. (pages : ℕ) → wrong ≡ ManyPages pages → (pages ≡
+        page_count string.now) × (most_policy_frames < pages)) }
 {
     let lru = lru_curve(alloc, string)?;
     if lru.len() > MOST_POLICY_FRAMES {

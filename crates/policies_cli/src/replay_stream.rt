@@ -1,7 +1,8 @@
 //! A trace that is played as it comes.
 
 ghost use Rattle.std.specs.Prelude.{◌≡◌, ◌≤◌, ◌<◌, ◌^◌, false, [], map, Some, IfOk, IfSome};
-ghost use Rattle.miss_counts.specs.FrameNumbers.{has_part, frames_for, page_count};
+ghost use Rattle.miss_counts.specs.FrameNumbers.{has_part, frames_for};
+ghost use Rattle.whole_strings.specs.PageCounts.{page_count};
 ghost use Rattle.miss_counts.specs.Replayed.{HavePlayed};
 ghost use Rattle.trace_files.specs.References.{Ends};
 ghost use Rattle.trace_files.specs.ReferenceAnswers.{to_come};

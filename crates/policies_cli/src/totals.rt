@@ -10,7 +10,7 @@ use crate::wrong::Wrong;
 use clock_policy::Key;
 use guest_strings::Reference;
 use image_files::Fault;
-use miss_counts::{Stage, StageListener};
+use miss_counts::{Stage, StageListener, see};
 use std::alloc::{AllocError, Global};
 use std::collections::HashSet;
 use std::io::BufRead;
@@ -33,20 +33,6 @@ fn none_seen(alloc: Global) -> HashSet<Key>
     HashSet::new(alloc)
 }
 
-/// The page is seen. How many pages are seen for the first time: 1 or none.
-fn see(seen: &mut HashSet<Key>, page: Key) -> Result<u64, AllocError>
-    ensures new { IfOk result (λ new. new ≡ cond (contains is_page seen.old page) 0 1) }
-    ensures few { IfOk result (λ new. new ≤ 1) }
-    ensures seen { OnOk result ((q : Key) → contains is_page seen.new q ≡
-        cond (is_page page q) true (contains is_page seen.old q)) }
-{
-    match seen.insert(page) {
-        Ok(true) => Ok(1),
-        Ok(false) => Ok(0),
-        Err(_) => Err(AllocError),
-    }
-}
-
 /// How many there are: 1 or none.
 fn one_if(is_so: bool) -> u64
     ensures count { result ≡ cond is_so 1 0 }
@@ -56,7 +42,7 @@ fn one_if(is_so: bool) -> u64
 }
 
 /// The counts with another reference, which is to so many pages that were not seen before.
-fn with_one(totals: Totals, reference: Reference, new: u64) -> Totals
+fn with_one(totals: Totals, reference: Reference, new: usize) -> Totals
     requires references { totals.references < 2 ^ 64 - 1 }
     requires writes { totals.writes ≤ totals.references }
     requires pages { totals.pages ≤ totals.references }
@@ -70,7 +56,7 @@ fn with_one(totals: Totals, reference: Reference, new: u64) -> Totals
     Totals {
         references: totals.references + 1,
         writes: totals.writes + one_if(reference.is_written),
-        pages: totals.pages + new,
+        pages: totals.pages + new as u64,
     }
 }
 

@@ -1,7 +1,8 @@
 //! `policies write-backs`: how many pages of a trace are written back.
 
 ghost use Rattle.std.specs.Prelude.{◌≡◌, map, IfOk, IfSome};
-ghost use Rattle.miss_counts.specs.FrameNumbers.{frames_for, page_count};
+ghost use Rattle.miss_counts.specs.FrameNumbers.{frames_for};
+ghost use Rattle.whole_strings.specs.PageCounts.{page_count};
 ghost use Rattle.miss_counts.specs.Guests.{pages_of};
 ghost use Rattle.trace_files.specs.ReferenceAnswers.{to_come};
 ghost use Rattle.policies_cli.specs.Replays.{OfFile, WritesBackAsAsked};

@@ -8,7 +8,7 @@ use super::operands::{
 /// An instruction of RV32I, M or A (unprivileged manual), with operands that are in range by their types.
 ///
 /// Registers are named as in the manual: `rd` is written, `rs1` and `rs2` are read.
-#[derive(Clone, Copy, Debug, PartialEq, Eq)]
+#[derive(Clone, Copy, PartialEq, Eq)]
 pub enum Insn {
     /// Load upper immediate.
     Lui {

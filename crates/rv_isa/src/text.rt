@@ -81,33 +81,36 @@ impl fmt::Display for Insn {
                 rd,
                 rs1,
                 rs2,
-            } => {
-                f.write_str(amo_name(*kind))?;
-                f.write_str(".w")?;
-                two_and_base(f, ordering_name(*acquire, *release), *rd, *rs2, *rs1)
-            }
+            } => two_and_base(
+                f,
+                amo_name(*kind),
+                ordering_name(*acquire, *release),
+                *rd,
+                *rs2,
+                *rs1,
+            ),
             Insn::LoadReserved {
                 acquire,
                 release,
                 rd,
                 rs1,
-            } => {
-                f.write_str("lr.w")?;
-                one_and_base(f, ordering_name(*acquire, *release), *rd, *rs1)
-            }
+            } => one_and_base(f, "lr", ordering_name(*acquire, *release), *rd, *rs1),
             Insn::StoreConditional {
                 acquire,
                 release,
                 rd,
                 rs1,
                 rs2,
-            } => {
-                f.write_str("sc.w")?;
-                two_and_base(f, ordering_name(*acquire, *release), *rd, *rs2, *rs1)
-            }
+            } => two_and_base(f, "sc", ordering_name(*acquire, *release), *rd, *rs2, *rs1),
             Insn::Ecall => f.write_str("ecall"),
             Insn::Ebreak => f.write_str("ebreak"),
         }
+    }
+}
+
+impl fmt::Debug for Insn {
+    fn fmt<W: fmt::Write>(&self, f: &mut fmt::Formatter<W>) -> fmt::Result {
+        write!(f, "{self}")
     }
 }
 
@@ -153,20 +156,22 @@ fn one_and_address<W: fmt::Write>(
 fn one_and_base<W: fmt::Write>(
     f: &mut fmt::Formatter<W>,
     name: &str,
+    ordering: &str,
     a: Reg,
     base: Reg,
 ) -> fmt::Result {
-    write!(f, "{name} {a},({base})")
+    write!(f, "{name}.w{ordering} {a},({base})")
 }
 
 fn two_and_base<W: fmt::Write>(
     f: &mut fmt::Formatter<W>,
     name: &str,
+    ordering: &str,
     a: Reg,
     b: Reg,
     base: Reg,
 ) -> fmt::Result {
-    write!(f, "{name} {a},{b},({base})")
+    write!(f, "{name}.w{ordering} {a},{b},({base})")
 }
 
 /// The bits of a plain `fence`: all accesses before it, then all after it.

@@ -12,7 +12,7 @@ use Rattle.whole_strings.specs.NextPlaceLaws.{under_more}
 use Rattle.whole_strings.specs.PlaceStepLaws.{Stands, next_once}
 use Rattle.whole_strings.specs.OptimumStack.{place_depth, restacked}
 use Rattle.whole_strings.specs.OptimumInclusion.{optimum_leaves, OptimumInclusion}
-use Rattle.whole_strings.specs.LastPlaceLaws.{flip_page}
+use Rattle.whole_strings.specs.LruDepthLaws.{flip_page}
 use Rattle.whole_strings.proofs.OptimumStepLaws.{hit_there, hit_stands, miss_gone, miss_stands}
 
 -- with each number of frames the first places of the stack are those of the pages

@@ -1,5 +1,5 @@
 -- Places that count while they are the last use of their page: proofs.
-use Rattle.std.specs.Prelude.{◌≡◌, ℕ, suc, ◌+◌, ◌^◌, ◌<◌, ◌≤◌, ◌==◌, ◌&&◌, Bool, true, false, cond, nat_lt, List, [], ◌∷◌, drop, length, replicate, slice_index_or, Option, Some, None, ⊤, refl}
+use Rattle.std.specs.Prelude.{◌≡◌, ℕ, suc, ◌+◌, ◌^◌, ◌<◌, ◌≤◌, Bool, true, false, cond, nat_lt, List, [], ◌∷◌, drop, length, replicate, slice_index_or, Option, Some, None, ⊤, refl}
 use Rattle.std.proofs.Common.{arith, sym, ap, subst, ◌∙◌}
 use Rattle.std.proofs.lemmas.Bool.Decides.{nat_tests}
 use Rattle.std.proofs.lemmas.Option.{same_Some}
@@ -9,7 +9,7 @@ use Rattle.page_policies.specs.QueueLaws.{same}
 use Rattle.page_policies.specs.Ordered.{to_front}
 use Rattle.page_policies.specs.DemandLaws.{one}
 use Rattle.whole_strings.specs.LruDepths.{depth, IsLruCurve, depth as depth_of_page}
-use Rattle.whole_strings.specs.LruDepthLaws.{tails, referred, Counting, counting_along, counting_begins, counting_end, count_small}
+use Rattle.whole_strings.specs.LruDepthLaws.{flip_page, tails, referred, Counting, counting_along, counting_begins, counting_end, count_small}
 use Rattle.whole_strings.specs.LastPlaces.{sum_from}
 use Rattle.whole_strings.specs.declared.last_places.LastPlaces.{LastPlaces}
 use Rattle.page_policies.specs.NumberLaws.{yes_less, no_less}
@@ -38,15 +38,6 @@ FallBelow b (t ∷ ts) = (t < b) × FallBelow t ts
 abbrev pub number_from : ℕ → List ℕ → ℕ
 number_from k [] = 0
 number_from k (t ∷ ts) = one (nat_lt k (suc t)) + number_from k ts
-
-pub flip_page : (p q : Key) → is_page p q ≡ is_page q p
-flip_page p q = two (p.process == q.process) (q.process == p.process) (p.vpn == q.vpn) (q.vpn == p.vpn) (flip p.process q.process) (flip p.vpn q.vpn)
-  where
-    flip : (a b : ℕ) → (a == b) ≡ (b == a)
-    flip a b = grind (arith, nat_tests)
-
-    two : (a b c d : Bool) → a ≡ b → c ≡ d → (a && c) ≡ (b && d)
-    two a b c d e f = rw (e, f) refl
 
 falls_more : (a b : ℕ) (ts : List ℕ) → a ≤ b → FallBelow a ts → FallBelow b ts
 falls_more a b [] h f = tt

@@ -1,6 +1,7 @@
 pub mod NextPlaces
 pub mod NextPlaceLaws
 pub mod PlaceStepLaws
+pub mod PageCounts
 pub mod LruDepths
 pub mod LruDepthLaws
 pub mod LastPlaces

@@ -1,14 +1,16 @@
 -- LRU with every number of frames at once: proofs.
-use Rattle.std.specs.Prelude.{◌≡◌, ℕ, zero, suc, ◌+◌, ◌-◌, ◌<◌, ◌≤◌, Bool, true, false, cond, nat_lt, List, [], ◌∷◌, ◌++◌, take, drop, length, slice_index_or, slice_set, ⊤, refl}
+use Rattle.std.specs.Prelude.{◌≡◌, ℕ, zero, suc, ◌+◌, ◌-◌, ◌<◌, ◌≤◌, ◌==◌, ◌&&◌, Bool, true, false, cond, nat_lt, List, [], ◌∷◌, ◌++◌, take, drop, length, slice_index_or, slice_set, ⊤, refl}
 use Rattle.std.proofs.Common.{arith, sym, ap, subst, ◌^◌, ◌∙◌}
 use Rattle.std.proofs.lemmas.Bool.Decides.{nat_tests}
 use Rattle.clock_policy.specs.declared.key.Key.{Key}
 use Rattle.page_policies.specs.Strings.{is_page, holds, without, misses}
 use Rattle.page_policies.specs.Queues.{lru, lru_misses}
+use Rattle.page_policies.specs.QueueLaws.{same}
 use Rattle.page_policies.specs.Ordered.{to_front}
 use Rattle.page_policies.proofs.InclusionLaws.{cut_step, nothing}
 use Rattle.page_policies.specs.NumberLaws.{less, most}
 use Rattle.whole_strings.specs.LruDepths.{depth, hits_within, CountsLru, IsLruCurve}
+use Rattle.whole_strings.specs.PageCounts.{first_uses, page_count}
 
 -- one more in this place
 abbrev pub noted : ℕ → List ℕ → List ℕ
@@ -109,6 +111,61 @@ counts_open string m =
 pub counts_end : (m n : ℕ) (counts : List ℕ) (stack string : List Key) → CountsLru n counts stack [] string → n - hits_within m counts ≡ lru_misses m string
 counts_end m n counts stack string all = let e : lru_misses m string + hits_within m counts ≡ n + 0 = all m in omega (arith, e)
 
+-- The pages that were seen are those of the stack.
+
+pub flip_page : (p q : Key) → is_page p q ≡ is_page q p
+flip_page p q = two (p.process == q.process) (q.process == p.process) (p.vpn == q.vpn) (q.vpn == p.vpn) (flip p.process q.process) (flip p.vpn q.vpn)
+  where
+    flip : (a b : ℕ) → (a == b) ≡ (b == a)
+    flip a b = grind (arith, nat_tests)
+
+    two : (a b c d : Bool) → a ≡ b → c ≡ d → (a && c) ≡ (b && d)
+    two a b c d e f = rw (e, f) refl
+
+-- only what was seen matters
+pub seen_alike : (string : List Key) (f g : Key → Bool) → ((q : Key) → f q ≡ g q) → first_uses f string ≡ first_uses g string
+seen_alike [] f g h = refl
+seen_alike (p ∷ ps) f g h =
+    let rest : first_uses (λ q. cond (is_page p q) true (f q)) ps ≡ first_uses (λ q. cond (is_page p q) true (g q)) ps =
+    seen_alike ps (λ q. cond (is_page p q) true (f q)) (λ q. cond (is_page p q) true (g q)) (λ q. ap (λ b. cond (is_page p q) true b) (h q)) in
+    rw (h p) (rw rest refl)
+
+depth_holds : (p : Key) (s : List Key) → holds p s ≡ nat_lt (depth p s) (length s)
+depth_holds p [] = refl
+depth_holds p (q ∷ qs) = elim (is_page p q) as (λ b. cond b true (holds p qs) ≡ nat_lt (cond b 0 (suc (depth p qs))) (suc (length qs))) [
+  | true ↦ sym (first (length qs))
+  | false ↦ depth_holds p qs ∙ next (depth p qs) (length qs)
+]
+
+others_held : (p q : Key) (s : List Key) → is_page q p ≡ false → holds q (without p s) ≡ holds q s
+others_held p q [] h = refl
+others_held p q (r ∷ rs) h = elim (is_page p r) as (λ b. is_page p r ≡ b → holds q (cond b rs (r ∷ without p rs)) ≡ cond (is_page q r) true (holds q rs)) [
+  | true ↦ λ is. sym (ap (λ (b : Bool). cond b true (holds q rs)) (ap (is_page q) (sym (same p r is)) ∙ h))
+  | false ↦ λ is. ap (λ (b : Bool). cond (is_page q r) true b) (others_held p q rs h)
+] refl
+
+front_held : (p q : Key) (s : List Key) → holds q (to_front p s) ≡ cond (is_page p q) true (holds q s)
+front_held p q s = elim (is_page q p) as (λ b. is_page q p ≡ b → cond b true (holds q (without p s)) ≡ cond b true (holds q s)) [
+  | true ↦ λ is. refl
+  | false ↦ λ is. others_held p q s is
+] refl ∙ ap (λ (b : Bool). cond b true (holds q s)) (flip_page q p)
+
+add_zero : (n : ℕ) → n + 0 ≡ n
+add_zero n = omega arith
+
+pages_on : (b : Bool) (p : Key) (stack rest string : List Key) → holds p stack ≡ b → length (to_front p stack) ≡ length stack + cond b 0 1
+    → length stack + first_uses (λ q. holds q stack) (p ∷ rest) ≡ page_count string → length (to_front p stack) + first_uses (λ q. holds q (to_front p stack)) rest ≡ page_count string
+pages_on b p stack rest string there more before =
+    let old : length stack + (cond (holds p stack) 0 1 + first_uses (λ q. cond (is_page p q) true (holds q stack)) rest) ≡ page_count string = before in
+    let new : first_uses (λ q. holds q (to_front p stack)) rest ≡ first_uses (λ q. cond (is_page p q) true (holds q stack)) rest =
+    seen_alike rest (λ q. holds q (to_front p stack)) (λ q. cond (is_page p q) true (holds q stack)) (λ q. front_held p q stack) in
+    let one : ◌≡◌ {A = ℕ} (cond (holds p stack) 0 1) (cond b 0 1) = ap (λ (c : Bool). let n : ℕ = cond c 0 1 in n) there in
+    omega (arith, old, new, one, more)
+
+pages_open : (string : List Key) → 0 + first_uses (λ q. false) string ≡ page_count string
+unfolding page_count
+pages_open string = omega arith
+
 -- no count is above so many
 
 abbrev pub Few : ℕ → List ℕ → Type 0
@@ -169,8 +226,9 @@ hits_past (suc m) [] h = refl
 hits_past zero (k ∷ ks) h = absurd (omega (arith, h))
 hits_past (suc m) (k ∷ ks) h = ap (λ (n : ℕ). k + n) (hits_past m ks (omega (arith, h)))
 
-pub curve_is : (n : ℕ) (counts : List ℕ) (stack string : List Key) → CountsLru n counts stack [] string → IsLruCurve (tails n counts) string
-curve_is n counts stack string all = record {
+pub curve_is : (n : ℕ) (counts : List ℕ) (stack string : List Key) → CountsLru n counts stack [] string → length counts ≡ page_count string → IsLruCurve (tails n counts) string
+curve_is n counts stack string all pages = record {
+  rows = length_tails n counts ∙ pages;
   each = λ m h.
       let l : length (tails n counts) ≡ length counts = length_tails n counts in
       tail_at n m counts (omega (arith, h, l)) ∙ counts_end (suc m) n counts stack string all ∙ ap (λ (k : ℕ). lru_misses k string) (one m);
@@ -205,6 +263,7 @@ pub record Counting (seen : ℕ) (counts : List ℕ) (stack rest string : List K
   pub counts_lru : CountsLru seen counts stack rest string
   pub few : Few seen counts
   pub size : length counts ≡ length stack
+  pub pages : length stack + first_uses (λ q. holds q stack) rest ≡ page_count string
 
 pub counting_on : (seen : ℕ) (counts : List ℕ) (p : Key) (stack rest string : List Key) → Counting seen counts stack (p ∷ rest) string → Counting (seen + 1) (referred (depth p stack) counts) (to_front p stack) rest string
 counting_on seen counts p stack rest string before = elim (nat_lt (depth p stack) (length counts)) as (λ b. nat_lt (depth p stack) (length counts) ≡ b → Counting (seen + 1) (cond b (noted (depth p stack) counts) (counts ++ 0 ∷ [])) (to_front p stack) rest string) [
@@ -215,6 +274,7 @@ counting_on seen counts p stack rest string before = elim (nat_lt (depth p stack
         counts_lru = counts_hit seen counts p stack rest string inside before.size before.counts_lru;
         few = few_noted seen (depth p stack) counts before.few;
         size = length_noted (depth p stack) counts ∙ before.size ∙ sym (length_front_found p stack inside);
+        pages = pages_on true p stack rest string (is_held true h before.size) (length_front_found p stack inside ∙ sym (add_zero (length stack))) before.pages;
       }
   | false ↦ λ h.
       let d : length counts ≤ depth p stack = most (depth p stack) (length counts) h in
@@ -223,11 +283,18 @@ counting_on seen counts p stack rest string before = elim (nat_lt (depth p stack
         counts_lru = λ m. counts_cold seen counts p stack rest string outside before.counts_lru m ∙ ap (λ (l : List Key). (seen + 1) + misses holds (lru m) (take m (p ∷ l)) rest) (sym (cold_without p stack outside));
         few = few_new seen counts before.few;
         size = length_new counts 0 ∙ ap suc (before.size ∙ sym (ap length (cold_without p stack outside)));
+        pages = pages_on false p stack rest string (is_held false h before.size) (ap suc (ap length (cold_without p stack outside)) ∙ one_on (length stack)) before.pages;
       }
 ] refl
+  where
+    is_held : (b : Bool) → nat_lt (depth p stack) (length counts) ≡ b → length counts ≡ length stack → holds p stack ≡ b
+    is_held b h size = depth_holds p stack ∙ ap (nat_lt (depth p stack)) (sym size) ∙ h
+
+    one_on : (k : ℕ) → suc k ≡ k + 1
+    one_on k = omega arith
 
 pub counting_open : (string : List Key) → Counting 0 [] [] string string
-counting_open string = record { counts_lru = counts_open string; few = tt; size = refl }
+counting_open string = record { counts_lru = counts_open string; few = tt; size = refl; pages = pages_open string }
 
 -- along a string, whose pages stand at their places
 pub counting_along : (seen : ℕ) (counts next : List ℕ) (p : Key) (stack after string : List Key) → seen < length string → p ≡ slice_index_or string seen p → next ≡ referred (depth p stack) counts → after ≡ to_front p stack →
@@ -248,8 +315,13 @@ counting_along seen counts next p stack after string h at is to before =
 pub counting_end : (seen : ℕ) (counts : List ℕ) (stack string : List Key) → length string ≤ seen → seen ≤ length string → Counting seen counts stack (drop seen string) string → IsLruCurve (tails (length string) counts) string
 counting_end seen counts stack string past within before =
     let e : seen ≡ length string = omega (arith, past, within) in
-    curve_is (length string) counts stack string (subst (λ (l : List Key). CountsLru (length string) counts stack l string) (gone (length string) string refl)
-    (subst (λ (n : ℕ). CountsLru n counts stack (drop n string) string) e before.counts_lru))
+    let none : drop (length string) string ≡ [] = gone (length string) string refl in
+    let pages : length stack + first_uses (λ q. holds q stack) (drop seen string) ≡ page_count string = before.pages in
+    let left : first_uses (λ q. holds q stack) (drop seen string) ≡ 0 = ap (λ n. first_uses (λ q. holds q stack) (drop n string)) e ∙ ap (first_uses (λ q. holds q stack)) none in
+    let size : length counts ≡ length stack = before.size in
+    curve_is (length string) counts stack string
+    (subst (λ (l : List Key). CountsLru (length string) counts stack l string) none (subst (λ (n : ℕ). CountsLru n counts stack (drop n string) string) e before.counts_lru))
+    (omega (arith, pages, left, size))
   where
     gone : (n : ℕ) (s : List Key) → n ≡ length s → drop n s ≡ []
     gone zero [] h = refl

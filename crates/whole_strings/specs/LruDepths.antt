@@ -5,6 +5,7 @@ use Rattle.std.specs.Prelude.{◌≡◌, ℕ, zero, suc, ◌+◌, ◌<◌, ◌�
 use Rattle.clock_policy.specs.declared.key.Key.{Key}
 use Rattle.page_policies.specs.Strings.{is_page, holds, misses}
 use Rattle.page_policies.specs.Queues.{lru, lru_misses}
+use Rattle.whole_strings.specs.PageCounts.{page_count}
 
 -- how many pages are before it; where it is nowhere, how many there are
 abbrev pub depth : Key → List Key → ℕ
@@ -24,5 +25,6 @@ CountsLru seen counts stack rest string = (m : ℕ) → lru_misses m string + hi
 
 -- what a string misses with 1, 2, 3 and more frames, up to as many as it has pages: with more it misses no less
 pub record IsLruCurve (curve : List ℕ) (string : List Key) : Type 0 where
+  pub rows : length curve ≡ page_count string
   pub each : (m : ℕ) → m < length curve → slice_index_or curve m 0 ≡ lru_misses (m + 1) string
   pub rest : (m : ℕ) → length curve ≤ m → lru_misses m string ≡ lru_misses (length curve) string

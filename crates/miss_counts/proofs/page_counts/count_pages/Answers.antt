@@ -7,7 +7,7 @@ use Rattle.miss_counts.proofs.page_counts.count_pages.Goals as goal
 pub pages-preserved : goal.pages-preserved
 pages-preserved c = record {
   whole = still_whole c.pages.count c.in_ok-count.field-0 _ _ _ _ c.pages.invariant.whole
-      (seen_more c.args.string.now c.pages.page-index _ (contains is_page c.pages.seen) (contains is_page c.note.new.seen) c.pages-test.true c.in_ok-count.ensures.seen)
+      (seen_more c.args.string.now c.pages.page-index _ (contains is_page c.pages.seen) (contains is_page c.see.new.seen) c.pages-test.true c.in_ok-count.ensures.seen)
       c.in_ok-count.ensures.new;
   few = omega (arith, c.pages.invariant.few, c.in_ok-count.ensures.few);
 }

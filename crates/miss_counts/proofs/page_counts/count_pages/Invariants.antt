@@ -1,7 +1,7 @@
 use Rattle.std.proofs.Common.{◌≡◌, ◌+◌, ◌≤◌, drop}
 use Rattle.std.specs.HashSet.{contains}
 use Rattle.page_policies.specs.Strings.{is_page}
-use Rattle.miss_counts.specs.FrameNumbers.{first_uses, page_count}
+use Rattle.whole_strings.specs.PageCounts.{first_uses, page_count}
 use Rattle.miss_counts.proofs.page_counts.count_pages.Given as goal
 
 -- what is counted and what is to come make the whole

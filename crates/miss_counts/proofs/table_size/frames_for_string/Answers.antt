@@ -1,6 +1,6 @@
 use Rattle.std.proofs.Common.{◌≡◌, ℕ, List, IfOk, map, subst, sym}
 use Rattle.page_policies.specs.declared.frames.Frames.{Frames}
-use Rattle.miss_counts.specs.FrameNumbers.{page_count}
+use Rattle.whole_strings.specs.PageCounts.{page_count}
 use Rattle.miss_counts.proofs.Sizes.{without_parts}
 use Rattle.miss_counts.proofs.table_size.frames_for_string.Goals as goal
 

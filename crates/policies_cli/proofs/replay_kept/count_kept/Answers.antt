@@ -2,7 +2,8 @@ use Rattle.std.proofs.Common.{◌≡◌, ◌∙◌, ◌<◌, List, [], arith, ap
 use Rattle.std.proofs.lemmas.Grind.{common_steps}
 use Rattle.clock_policy.specs.declared.key.Key.{Key}
 use Rattle.page_policies.specs.declared.frames.Frames.{Frames}
-use Rattle.miss_counts.specs.FrameNumbers.{frames_for, page_count}
+use Rattle.miss_counts.specs.FrameNumbers.{frames_for}
+use Rattle.whole_strings.specs.PageCounts.{page_count}
 use Rattle.miss_counts.specs.Replayed.{HavePlayed}
 use Rattle.miss_counts.specs.declared.table_size.TableSize.{TableSize}
 use Rattle.trace_files.specs.ReferenceAnswers.{to_come}

@@ -3,7 +3,8 @@ use Rattle.std.specs.List.{AllZip}
 use Rattle.clock_policy.specs.declared.key.Key.{Key}
 use Rattle.page_policies.specs.declared.frames.Frames.{Frames}
 use Rattle.miss_counts.specs.Counted.{IsRow}
-use Rattle.miss_counts.specs.FrameNumbers.{frames_for, page_count}
+use Rattle.miss_counts.specs.FrameNumbers.{frames_for}
+use Rattle.whole_strings.specs.PageCounts.{page_count}
 use Rattle.miss_counts.specs.declared.table_size.TableSize.{TableSize}
 use Rattle.trace_files.specs.ReferenceAnswers.{to_come}
 use Rattle.policies_cli.proofs.Replaying.{whole_as_asked}

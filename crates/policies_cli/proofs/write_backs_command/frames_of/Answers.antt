@@ -1,6 +1,6 @@
 use Rattle.std.proofs.Common.{◌≡◌, ℕ, List, IfOk, map, subst, sym}
 use Rattle.page_policies.specs.declared.frames.Frames.{Frames}
-use Rattle.miss_counts.specs.FrameNumbers.{page_count}
+use Rattle.whole_strings.specs.PageCounts.{page_count}
 use Rattle.miss_counts.specs.Guests.{pages_of}
 use Rattle.miss_counts.proofs.Sizes.{without_parts}
 use Rattle.policies_cli.proofs.write_backs_command.frames_of.Goals as goal

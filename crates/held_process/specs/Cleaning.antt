@@ -9,7 +9,7 @@ use Rattle.machine_sides.specs.declared.cleaning.Copying.{Copying}
 use Rattle.page_store.specs.JobValue.{SavedValue}
 use Rattle.page_store.specs.declared.answer.Cleaned.{Cleaned}
 use Rattle.page_store.specs.declared.answer.Cleaned.TheVariants as back
-use Rattle.paged_memory.specs.Cleaning.{is_changed_in}
+use Rattle.paged_memory.specs.cleaning.Cleaning.{is_changed_in}
 use Rattle.pager_core.specs.Pager.{tallied}
 use Rattle.space_core.specs.StandsFor.{SpaceValue}
 use Rattle.swap_slots.specs.PoolValue.{PoolValue}

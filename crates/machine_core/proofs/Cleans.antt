@@ -4,8 +4,8 @@ use Rattle.std.specs.Prelude.{slice_set, OnOk, OnErr}
 use Rattle.std.proofs.lemmas.List.{length-set}
 use Rattle.clock_policy.specs.declared.key.Key.{Key}
 use Rattle.page_store.specs.JobValue.{JobValue}
-use Rattle.paged_memory.proofs.AlikeLaws.{CountsAlike, same_memory}
-use Rattle.paged_memory.specs.Cleaning.{refused_of}
+use Rattle.paged_memory.proofs.access_laws.AlikeLaws.{CountsAlike, same_memory}
+use Rattle.paged_memory.specs.cleaning.Cleaning.{refused_of}
 use Rattle.swap_slots.specs.PoolValue.{PoolValue}
 use Rattle.machine_core.specs.CleaningEvents.{clean_barred, clean_reason, clean_refusal, clean_reply, CleansAt, CleansOnce}
 use Rattle.machine_core.specs.Machine.{CoreValue, IsMachine}

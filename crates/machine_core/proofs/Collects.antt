@@ -9,9 +9,9 @@ use Rattle.clock_policy.specs.declared.refusal.Refusal.TheVariants as list
 use Rattle.clock_policy.proofs.AdmitLaws.{one_key}
 use Rattle.clock_policy.specs.Lawful.{Lawful}
 use Rattle.page_store.specs.JobValue.{JobValue}
-use Rattle.paged_memory.proofs.CopiesToldLaws.{leaves_itself}
-use Rattle.paged_memory.specs.Stages.{is_leaving_stage, is_saving_stage}
-use Rattle.paged_memory.proofs.StagesLaws.{leaving_framed, leaving_not_resident, leaving_not_saving}
+use Rattle.paged_memory.proofs.cleaning_laws.CopiesToldLaws.{leaves_itself}
+use Rattle.paged_memory.specs.moves.Stages.{is_leaving_stage, is_saving_stage}
+use Rattle.paged_memory.proofs.move_laws.StagesLaws.{leaving_framed, leaving_not_resident, leaving_not_saving}
 use Rattle.paged_memory.specs.Whole.{stage_in, frame_in}
 use Rattle.space_core.specs.StandsFor.{SpaceValue}
 use Rattle.swap_slots.specs.PoolValue.{PoolValue}

@@ -12,10 +12,10 @@ use Rattle.clock_policy.specs.declared.key.Key.{Key}
 use Rattle.page_store.specs.JobValue.{JobValue, SavedValue}
 use Rattle.page_store.specs.declared.answer.Cleaned.{Cleaned}
 use Rattle.page_store.specs.declared.answer.Cleaned.TheVariants as end
-use Rattle.paged_memory.proofs.CleanBarLaws.{copy_there, stands_back}
-use Rattle.paged_memory.proofs.CleanLaws.{HasCleaned, clean_comes_to}
+use Rattle.paged_memory.proofs.cleaning_laws.CleanBarLaws.{copy_there, stands_back}
+use Rattle.paged_memory.proofs.cleaning_laws.CleanLaws.{HasCleaned, clean_comes_to}
 use Rattle.paged_memory.specs.Coheres.{HoldsIn}
-use Rattle.paged_memory.specs.Copies.{CopyStands, is_copied_in}
+use Rattle.paged_memory.specs.cleaning.Copies.{CopyStands, is_copied_in}
 use Rattle.space_core.specs.StandsFor.{SpaceValue}
 use Rattle.swap_slots.specs.PoolValue.{PoolValue}
 use Rattle.machine_core.specs.CleaningEvents.{cleaned_refusal, unless_out, CleanedOnce, CopyBackAt, IsOwnCopy, RepliesBack}

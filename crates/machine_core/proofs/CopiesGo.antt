@@ -7,10 +7,10 @@ use Rattle.clock_policy.proofs.AdmitLaws.{one_key}
 use Rattle.clock_policy.specs.declared.key.Key.{Key}
 use Rattle.page_store.specs.JobValue.{JobValue}
 use Rattle.page_store.specs.declared.answer.CleanCopy.TheVariants as answered
-use Rattle.paged_memory.proofs.AlikeLaws.{CountsAlike}
-use Rattle.paged_memory.proofs.CleanBarLaws.{goes_keeps}
-use Rattle.paged_memory.specs.Cleaning.{refused_of, is_cleaning_in}
-use Rattle.paged_memory.specs.Copies.{CopyStands}
+use Rattle.paged_memory.proofs.access_laws.AlikeLaws.{CountsAlike}
+use Rattle.paged_memory.proofs.cleaning_laws.CleanBarLaws.{goes_keeps}
+use Rattle.paged_memory.specs.cleaning.Cleaning.{refused_of, is_cleaning_in}
+use Rattle.paged_memory.specs.cleaning.Copies.{CopyStands}
 use Rattle.swap_slots.specs.PoolValue.{PoolValue}
 use Rattle.machine_core.specs.CleaningEvents.{copy_barred, copy_reason, copy_refusal, copy_reply, copies_after, CopiesAt, CopiesOnce, CopiesTo, stored, not_yet, no_slot, copied, IfCopies}
 use Rattle.machine_core.specs.Machine.{CoreValue, IsMachine, IsCopyOut, jobs_where}

@@ -14,7 +14,7 @@ use Rattle.clock_policy.specs.Residents.{is_gone}
 use Rattle.pager_core.specs.Pager.{PagerState, pager_answered}
 use Rattle.flat_machine.specs.declared.end.End.{End}
 use Rattle.flat_machine.specs.declared.end.KillCause.{KillCause}
-use Rattle.paged_memory.proofs.AlikeLaws.{CountsAlike, same_memory, kept_alike, noticed_alike, emptied_alike}
+use Rattle.paged_memory.proofs.access_laws.AlikeLaws.{CountsAlike, same_memory, kept_alike, noticed_alike, emptied_alike}
 use Rattle.paged_memory.specs.Paged.{PagedValue}
 use Rattle.space_core.specs.Caches.{if_killed}
 use Rattle.space_core.specs.declared.progress.SliceStop.{SliceStop}

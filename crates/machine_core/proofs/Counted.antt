@@ -6,10 +6,10 @@ use Rattle.clock_policy.specs.ClockPro.{restored}
 use Rattle.clock_policy.specs.Residents.{residents, is_key, has_resident}
 use Rattle.frame_pool.specs.FrameValue.{FrameValue}
 use Rattle.page_store.specs.JobValue.{JobValue}
-use Rattle.paged_memory.proofs.AmongLaws.{residents_framed as among_framed, savings_framed as saved_framed, one_resident_less, one_saving_less}
-use Rattle.paged_memory.proofs.CleanBarLaws.{copies_framed as copied_framed, one_copy_less}
-use Rattle.paged_memory.specs.Cleaning.{is_cleaning_in}
-use Rattle.paged_memory.specs.Stages.{is_resident_stage, is_saving_stage, has_frame_stage}
+use Rattle.paged_memory.proofs.access_laws.AmongLaws.{residents_framed as among_framed, savings_framed as saved_framed, one_resident_less, one_saving_less}
+use Rattle.paged_memory.proofs.cleaning_laws.CleanBarLaws.{copies_framed as copied_framed, one_copy_less}
+use Rattle.paged_memory.specs.cleaning.Cleaning.{is_cleaning_in}
+use Rattle.paged_memory.specs.moves.Stages.{is_resident_stage, is_saving_stage, has_frame_stage}
 use Rattle.paged_memory.specs.Whole.{stage_in}
 use Rattle.space_core.specs.StandsFor.{SpaceValue}
 use Rattle.machine_core.specs.Machine.{CoreValue, IsMachine, total, numbers_below, jobs_where}

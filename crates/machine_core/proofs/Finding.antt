@@ -6,9 +6,9 @@ use Rattle.clock_policy.specs.declared.key.Key.{Key}
 use Rattle.clock_policy.proofs.AdmitLaws.{asked_once}
 use Rattle.clock_policy.specs.ClockPro.{question_of}
 use Rattle.clock_policy.specs.Residents.{is_key, is_gone}
-use Rattle.paged_memory.proofs.AmongLaws.{resident_there}
-use Rattle.paged_memory.specs.Stages.{is_resident_stage}
-use Rattle.paged_memory.proofs.StagesLaws.{resident_accessed}
+use Rattle.paged_memory.proofs.access_laws.AmongLaws.{resident_there}
+use Rattle.paged_memory.specs.moves.Stages.{is_resident_stage}
+use Rattle.paged_memory.proofs.move_laws.StagesLaws.{resident_accessed}
 use Rattle.paged_memory.specs.Whole.{stage_in, accessed_in}
 use Rattle.clock_policy.specs.declared.answer.Bit.TheVariants.{Gone}
 use Rattle.space_core.specs.StandsFor.{SpaceValue}

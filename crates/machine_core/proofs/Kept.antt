@@ -6,9 +6,9 @@ use Rattle.std.proofs.lemmas.List.{length-set}
 use Rattle.clock_policy.specs.declared.key.Key.{Key}
 use Rattle.clock_policy.specs.Lawful.{Lawful}
 use Rattle.page_store.specs.JobValue.{JobValue}
-use Rattle.paged_memory.proofs.AlikeLaws.{SavingsStay}
-use Rattle.paged_memory.specs.Copies.{CopyStands, KeepsCopies, LeavesCopies}
-use Rattle.paged_memory.specs.Stages.{is_saving_stage}
+use Rattle.paged_memory.proofs.access_laws.AlikeLaws.{SavingsStay}
+use Rattle.paged_memory.specs.cleaning.Copies.{CopyStands, KeepsCopies, LeavesCopies}
+use Rattle.paged_memory.specs.moves.Stages.{is_saving_stage}
 use Rattle.paged_memory.specs.Whole.{stage_in, frame_in, slots_within}
 use Rattle.machine_sides.specs.Together.{Together, residents_in, savings_in, copies_in, frames_in}
 use Rattle.machine_core.specs.Machine.{CoreValue, IsMachine, IsSaveOut, IsCopyOut, total, jobs_where, numbers_below}

@@ -16,7 +16,7 @@ use Rattle.frame_pool.specs.FrameValue.{zero_frame}
 use Rattle.machine_limits.specs.Limits.{most_processes}
 use Rattle.page_memory.specs.Pages.{Page}
 use Rattle.page_store.specs.JobValue.{JobValue}
-use Rattle.paged_memory.proofs.AmongLaws.{fresh_residents, fresh_savings, fresh_copies, fresh_frames, fresh_slots}
+use Rattle.paged_memory.proofs.access_laws.AmongLaws.{fresh_residents, fresh_savings, fresh_copies, fresh_frames, fresh_slots}
 use Rattle.paged_memory.specs.Whole.{slots_within}
 use Rattle.pager_core.specs.Pager.{full_pager}
 use Rattle.swap_slots.specs.PoolValue.{PoolValue}

@@ -8,10 +8,10 @@ use Rattle.page_store.specs.JobValue.{JobValue}
 use Rattle.pager_core.specs.Pager.{none_free}
 use Rattle.space_core.specs.StandsFor.{SpaceValue}
 use Rattle.swap_slots.specs.PoolValue.{PoolValue}
-use Rattle.paged_memory.specs.Moving.{RefusesIn}
-use Rattle.paged_memory.specs.Stages.{is_absent_stage, is_resident_stage}
-use Rattle.paged_memory.proofs.StagesLaws.{resident_not_absent}
-use Rattle.paged_memory.proofs.StillLaws.{refused_still, refused_absent}
+use Rattle.paged_memory.specs.moves.Moving.{RefusesIn}
+use Rattle.paged_memory.specs.moves.Stages.{is_absent_stage, is_resident_stage}
+use Rattle.paged_memory.proofs.move_laws.StagesLaws.{resident_not_absent}
+use Rattle.paged_memory.proofs.move_laws.StillLaws.{refused_still, refused_absent}
 use Rattle.paged_memory.specs.Whole.{stage_in}
 use Rattle.machine_sides.specs.Admitting.{is_resident_at, is_absent_at, bars, told_by, taken_back}
 use Rattle.machine_sides.specs.declared.admission.NotAdmitted.{NotAdmitted}

@@ -17,8 +17,8 @@ use Rattle.pager_core.specs.declared.refusal.AdmitRefusal.{AdmitRefusal}
 use Rattle.pager_core.specs.declared.refusal.AdmitRefusal.TheVariants as pager_refused
 use Rattle.pager_core.specs.Pager.{PagerState, resident_kind, is_listed_resident, none_free, has_no_frame, admission_refused}
 use Rattle.space_core.specs.StandsFor.{SpaceValue}
-use Rattle.paged_memory.specs.Stages.{is_absent_stage}
-use Rattle.paged_memory.proofs.StagesLaws.{resident_not_absent}
+use Rattle.paged_memory.specs.moves.Stages.{is_absent_stage}
+use Rattle.paged_memory.proofs.move_laws.StagesLaws.{resident_not_absent}
 use Rattle.paged_memory.specs.Whole.{stage_in}
 use Rattle.machine_sides.specs.Admitting.{is_absent_at, page_bars, bars, bars_from, pager_refusal}
 use Rattle.machine_sides.specs.declared.admission.NotAdmitted.{NotAdmitted}

@@ -11,9 +11,9 @@ use Rattle.clock_policy.specs.Lawful.{Lawful}
 use Rattle.clock_policy.specs.Residents.{residents, is_key, has_resident}
 use Rattle.frame_pool.specs.FrameValue.{FrameValue}
 use Rattle.pager_core.specs.Pager.{admitted_with}
-use Rattle.paged_memory.proofs.AlikeLaws.{CountsAlike}
-use Rattle.paged_memory.proofs.ComeLaws.{HasCome, come, refused_alike}
-use Rattle.paged_memory.proofs.StillLaws.{refused_number}
+use Rattle.paged_memory.proofs.access_laws.AlikeLaws.{CountsAlike}
+use Rattle.paged_memory.proofs.move_laws.ComeLaws.{HasCome, come, refused_alike}
+use Rattle.paged_memory.proofs.move_laws.StillLaws.{refused_number}
 use Rattle.space_core.specs.StandsFor.{SpaceValue}
 use Rattle.machine_sides.specs.Admitting.{AdmissionValue, Admits}
 use Rattle.machine_core.specs.declared.event.Reply.{Reply}

@@ -1,8 +1,8 @@
 -- A look at bytes leaves the counts: a page that is away stays so.
 use Rattle.std.proofs.Common.{ℕ, ◌^◌, ◌<◌, List, Option, ap}
 use Rattle.std.specs.Prelude.{Result}
-use Rattle.paged_memory.proofs.AlikeLaws.{CountsAlike}
-use Rattle.paged_memory.proofs.ComeLaws.{looked_alike}
+use Rattle.paged_memory.proofs.access_laws.AlikeLaws.{CountsAlike}
+use Rattle.paged_memory.proofs.move_laws.ComeLaws.{looked_alike}
 use Rattle.paged_memory.specs.declared.peeking.PeekFault.{PeekFault}
 use Rattle.machine_sides.specs.Showing.{Peeks}
 use Rattle.space_core.specs.StandsFor.{SpaceValue}

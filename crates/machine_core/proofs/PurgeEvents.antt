@@ -11,7 +11,7 @@ use Rattle.clock_policy.specs.Lawful.{Lawful}
 use Rattle.clock_policy.specs.Residents.{residents}
 use Rattle.frame_pool.specs.FrameValue.{FrameValue}
 use Rattle.page_store.specs.JobValue.{JobValue}
-use Rattle.paged_memory.proofs.AmongLaws.{no_residents}
+use Rattle.paged_memory.proofs.access_laws.AmongLaws.{no_residents}
 use Rattle.paged_memory.specs.Whole.{residents_among, slots_within}
 use Rattle.pager_core.specs.Pager.{PagerState}
 use Rattle.space_core.specs.StandsFor.{SpaceValue}

@@ -12,11 +12,11 @@ use Rattle.clock_policy.proofs.AdmitLaws.{one_key}
 use Rattle.clock_policy.specs.Residents.{is_key}
 use Rattle.frame_pool.specs.FrameValue.{FrameValue}
 use Rattle.page_store.specs.JobValue.{JobValue, SavedValue}
-use Rattle.paged_memory.proofs.AlikeLaws.{same_stage, same_frame}
-use Rattle.paged_memory.specs.Moving.{IsOutOf}
-use Rattle.paged_memory.proofs.SaveLaws.{leaving_again, out_of}
-use Rattle.paged_memory.specs.Stages.{is_saving_stage}
-use Rattle.paged_memory.proofs.StagesLaws.{saving_framed, saving_not_resident}
+use Rattle.paged_memory.proofs.access_laws.AlikeLaws.{same_stage, same_frame}
+use Rattle.paged_memory.specs.moves.Moving.{IsOutOf}
+use Rattle.paged_memory.proofs.move_laws.SaveLaws.{leaving_again, out_of}
+use Rattle.paged_memory.specs.moves.Stages.{is_saving_stage}
+use Rattle.paged_memory.proofs.move_laws.StagesLaws.{saving_framed, saving_not_resident}
 use Rattle.paged_memory.specs.Whole.{stage_in, frame_in}
 use Rattle.machine_core.specs.declared.event.Reply.{Reply}
 use Rattle.machine_sides.specs.declared.saving_back.SaveFailure.{SaveFailure}

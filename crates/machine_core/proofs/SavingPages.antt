@@ -4,12 +4,12 @@ use Rattle.std.specs.Prelude.{if◌then◌else◌}
 use borrow.Author.Tests.{eqb-true}
 use Rattle.clock_policy.specs.declared.key.Key.{Key}
 use Rattle.clock_policy.specs.Residents.{is_key}
-use Rattle.paged_memory.proofs.AmongLaws.{some_saving, saving_there}
+use Rattle.paged_memory.proofs.access_laws.AmongLaws.{some_saving, saving_there}
 use Rattle.space_core.specs.StandsFor.{SpaceValue}
 use Rattle.machine_core.specs.declared.error.EventRefusal.TheVariants as refusal
 use Rattle.machine_core.specs.Machine.{CoreValue, IsMachine}
 use Rattle.machine_core.specs.MachineRun.{of_process}
-use Rattle.paged_memory.specs.Stages.{is_saving_stage}
+use Rattle.paged_memory.specs.moves.Stages.{is_saving_stage}
 use Rattle.paged_memory.specs.Whole.{stage_in}
 use Rattle.machine_sides.specs.SavingBack.{is_saving_at}
 use Rattle.machine_sides.proofs.StageLaws.{stage_passes}

@@ -5,7 +5,7 @@ use Rattle.page_store.specs.JobValue.{JobValue, SavedValue}
 use Rattle.page_store.specs.declared.answer.CleanCopy.TheVariants as answered
 use Rattle.page_store.specs.declared.answer.Cleaned.{Cleaned}
 use Rattle.page_store.specs.declared.answer.Cleaned.TheVariants as end
-use Rattle.paged_memory.specs.Cleaning.{refused_of}
+use Rattle.paged_memory.specs.cleaning.Cleaning.{refused_of}
 use Rattle.paged_memory.specs.Coheres.{HoldsIn}
 use Rattle.paged_memory.specs.Paged.{memory_of}
 use Rattle.swap_slots.specs.PoolValue.{PoolValue}

@@ -6,8 +6,8 @@ use Rattle.clock_policy.specs.Residents.{residents}
 use Rattle.frame_pool.specs.FrameValue.{FrameValue}
 use Rattle.machine_limits.specs.Limits.{most_processes}
 use Rattle.page_store.specs.JobValue.{JobValue}
-use Rattle.paged_memory.specs.Copies.{CopyStands}
-use Rattle.paged_memory.specs.Stages.{is_saving_stage}
+use Rattle.paged_memory.specs.cleaning.Copies.{CopyStands}
+use Rattle.paged_memory.specs.moves.Stages.{is_saving_stage}
 use Rattle.paged_memory.specs.Whole.{stage_in, frame_in, slots_within}
 use Rattle.swap_slots.specs.PoolValue.{PoolValue}
 use Rattle.machine_sides.specs.Sides.{PagerSideValue}

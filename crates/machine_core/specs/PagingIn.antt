@@ -3,7 +3,7 @@ use Rattle.std.specs.Prelude.{◌≡◌, ◌≢◌, ◌⊎◌, ℕ, List, ◌++�
 use Rattle.clock_policy.specs.declared.key.Key.{Key}
 use Rattle.clock_policy.specs.ClockPro.{kind_of, withdrawn}
 use Rattle.frame_pool.specs.FrameValue.{FrameValue}
-use Rattle.paged_memory.specs.Moving.{RefusesIn, SameEntries}
+use Rattle.paged_memory.specs.moves.Moving.{RefusesIn, SameEntries}
 use Rattle.paged_memory.specs.declared.filling.PageInFault.{PageInFault}
 use Rattle.paged_memory.specs.declared.filling.PageInFault.TheVariants as load
 use Rattle.pager_core.specs.Pager.{none_free}

@@ -17,7 +17,6 @@ mod event;
 mod jobs_out;
 mod machine;
 mod many_steps;
-mod memory_showing;
 mod opening;
 mod paging_in;
 mod reading;

@@ -12,13 +12,13 @@ use Rattle.clock_policy.specs.ClockPro.{withdrawn, admitted, answered}
 use Rattle.clock_policy.specs.Lawful.{Lawful}
 use Rattle.clock_policy.proofs.ResidentLaws.{answered_residents}
 use Rattle.clock_policy.specs.Residents.{residents, is_key, has_resident, is_gone, takes}
-use Rattle.paged_memory.proofs.AlikeLaws.{CountsAlike, same_residents}
-use Rattle.paged_memory.proofs.AmongLaws.{no_residents}
-use Rattle.paged_memory.proofs.ComeLaws.{come}
-use Rattle.paged_memory.proofs.LeaveLaws.{accessed_stage}
-use Rattle.paged_memory.specs.Moving.{SamePage}
-use Rattle.paged_memory.proofs.SaveLaws.{gone_away}
-use Rattle.paged_memory.specs.Stages.{is_resident_stage}
+use Rattle.paged_memory.proofs.access_laws.AlikeLaws.{CountsAlike, same_residents}
+use Rattle.paged_memory.proofs.access_laws.AmongLaws.{no_residents}
+use Rattle.paged_memory.proofs.move_laws.ComeLaws.{come}
+use Rattle.paged_memory.proofs.move_laws.LeaveLaws.{accessed_stage}
+use Rattle.paged_memory.specs.moves.Moving.{SamePage}
+use Rattle.paged_memory.proofs.move_laws.SaveLaws.{gone_away}
+use Rattle.paged_memory.specs.moves.Stages.{is_resident_stage}
 use Rattle.paged_memory.specs.Whole.{stage_in, accessed_in, residents_among}
 use Rattle.pager_core.specs.Pager.{PagerState, pager_answered, admitted_with}
 use Rattle.space_core.specs.StandsFor.{SpaceValue}

@@ -4,9 +4,9 @@ use Rattle.clock_policy.specs.declared.key.Key.{Key}
 use Rattle.page_store.specs.JobValue.{JobValue, SavedValue}
 use Rattle.page_store.specs.declared.answer.CleanCopy.{CleanCopy}
 use Rattle.page_store.specs.declared.answer.CleanCopy.TheVariants as copied
-use Rattle.paged_memory.proofs.AlikeLaws.{CountsAlike}
-use Rattle.paged_memory.proofs.CleanLaws.{StaysInPlace, HasCopied, HasCleaned, CopyComesTo, begins_alike, copy_comes_to}
-use Rattle.paged_memory.specs.Moving.{slot_in}
+use Rattle.paged_memory.proofs.access_laws.AlikeLaws.{CountsAlike}
+use Rattle.paged_memory.proofs.cleaning_laws.CleanLaws.{StaysInPlace, HasCopied, HasCleaned, CopyComesTo, begins_alike, copy_comes_to}
+use Rattle.paged_memory.specs.moves.Moving.{slot_in}
 use Rattle.paged_memory.specs.Whole.{slots_within}
 use Rattle.pager_core.specs.Pager.{PagerState}
 use Rattle.space_core.specs.StandsFor.{SpaceValue}

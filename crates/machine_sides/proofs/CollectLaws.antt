@@ -4,8 +4,8 @@ use Rattle.clock_policy.specs.declared.key.Key.{Key}
 use Rattle.clock_policy.specs.Residents.{residents}
 use Rattle.frame_pool.specs.FrameValue.{FrameValue}
 use Rattle.page_store.specs.JobValue.{JobValue}
-use Rattle.paged_memory.specs.Moving.{slot_in}
-use Rattle.paged_memory.proofs.SaveLaws.{HasGone, gone, IsBeingSaved, being_saved}
+use Rattle.paged_memory.specs.moves.Moving.{slot_in}
+use Rattle.paged_memory.proofs.move_laws.SaveLaws.{HasGone, gone, IsBeingSaved, being_saved}
 use Rattle.paged_memory.specs.Whole.{slots_within}
 use Rattle.swap_slots.specs.PoolValue.{PoolValue}
 use Rattle.machine_sides.specs.Collecting.{Drops, StartsSaving, TakesSlot, IsDropped, IsCopied}

@@ -9,8 +9,8 @@ use Rattle.clock_policy.proofs.AdmitLaws.{residents_once}
 use Rattle.clock_policy.specs.ClockPro.{number}
 use Rattle.clock_policy.specs.Lawful.{Lawful}
 use Rattle.clock_policy.specs.Residents.{residents, in_frame, is_resident_that, is_key}
-use Rattle.paged_memory.proofs.AmongLaws.{fewer_residents, one_resident, no_residents}
-use Rattle.paged_memory.specs.Stages.{is_resident_stage}
+use Rattle.paged_memory.proofs.access_laws.AmongLaws.{fewer_residents, one_resident, no_residents}
+use Rattle.paged_memory.specs.moves.Stages.{is_resident_stage}
 use Rattle.paged_memory.specs.Whole.{residents_among}
 use Rattle.space_core.specs.StandsFor.{SpaceValue}
 use Rattle.machine_sides.specs.Admitting.{is_resident_at}

@@ -5,9 +5,9 @@ use Rattle.std.proofs.lemmas.Bool.Decides.{leb_tells}
 use Rattle.clock_policy.specs.declared.key.Key.{Key}
 use Rattle.clock_policy.proofs.AdmitLaws.{is_key_self, key_residents}
 use Rattle.clock_policy.specs.Residents.{is_key}
-use Rattle.paged_memory.proofs.ComeLaws.{come, refused_alike}
-use Rattle.paged_memory.specs.Stages.{is_resident_stage, is_absent_stage}
-use Rattle.paged_memory.proofs.StagesLaws.{resident_not_absent}
+use Rattle.paged_memory.proofs.move_laws.ComeLaws.{come, refused_alike}
+use Rattle.paged_memory.specs.moves.Stages.{is_resident_stage, is_absent_stage}
+use Rattle.paged_memory.proofs.move_laws.StagesLaws.{resident_not_absent}
 use Rattle.paged_memory.specs.Whole.{stage_in}
 use Rattle.paged_memory.specs.declared.filling.PageInFault.{PageInFault}
 use Rattle.pager_core.specs.Pager.{PagerState}

@@ -2,11 +2,11 @@
 use Rattle.std.proofs.Common.{◌≡◌, ℕ, ◌^◌, ◌<◌, Bool, false, List, Option, Some, None, [], ◌∷◌, ◌++◌, IsNone, IfSome, IfNone, ◌↔◌, refl, sym, ap, ◌∙◌, subst}
 use Rattle.page_store.specs.declared.answer.Collected.{Collected}
 use Rattle.page_store.specs.declared.answer.Collected.TheVariants as answer
-use Rattle.paged_memory.specs.Leaving.{lets_go}
-use Rattle.paged_memory.proofs.LooksLaws.{ComesTo, TakesSpare, comes_to, wants_slotless, leaving_stage, wants_uncached, wants_unbacked}
-use Rattle.paged_memory.specs.Moving.{WantsSlot, LooksAt, OnlyPages, with_pages, slot_in}
+use Rattle.paged_memory.specs.moves.Leaving.{lets_go}
+use Rattle.paged_memory.proofs.access_laws.LooksLaws.{ComesTo, TakesSpare, comes_to, wants_slotless, leaving_stage, wants_uncached, wants_unbacked}
+use Rattle.paged_memory.specs.moves.Moving.{WantsSlot, LooksAt, OnlyPages, with_pages, slot_in}
 use Rattle.paged_memory.specs.Paged.{PagedValue}
-use Rattle.paged_memory.specs.Stages.{is_leaving_stage}
+use Rattle.paged_memory.specs.moves.Stages.{is_leaving_stage}
 use Rattle.space_core.specs.StandsFor.{SpaceValue}
 use Rattle.swap_slots.specs.PoolValue.{PoolValue}
 use Rattle.machine_sides.specs.Collecting.{Finds, TakesSlot}

@@ -10,13 +10,13 @@ use Rattle.clock_policy.specs.ClockPro.{ClockState, number, purged}
 use Rattle.clock_policy.specs.Residents.{in_frame, is_resident_that, residents}
 use Rattle.flat_machine.specs.declared.end.End.{End}
 use Rattle.frame_pool.specs.FrameValue.{FrameValue}
-use Rattle.paged_memory.proofs.AlikeLaws.{SavingsStay}
-use Rattle.paged_memory.specs.Copies.{LeavesCopies}
-use Rattle.paged_memory.proofs.GivenLaws.{HoldsNothing, bare_all, all_savings, all_stay, all_copies}
-use Rattle.paged_memory.specs.Moving.{SavesSome, SavesNone}
-use Rattle.paged_memory.specs.Moving as moving
+use Rattle.paged_memory.proofs.access_laws.AlikeLaws.{SavingsStay}
+use Rattle.paged_memory.specs.cleaning.Copies.{LeavesCopies}
+use Rattle.paged_memory.proofs.move_laws.GivenLaws.{HoldsNothing, bare_all, all_savings, all_stay, all_copies}
+use Rattle.paged_memory.specs.moves.Moving.{SavesSome, SavesNone}
+use Rattle.paged_memory.specs.moves.Moving as moving
 use Rattle.paged_memory.specs.Paged.{PagedValue}
-use Rattle.paged_memory.proofs.SaveLaws.{some_save, none_save, none_saved}
+use Rattle.paged_memory.proofs.move_laws.SaveLaws.{some_save, none_save, none_saved}
 use Rattle.paged_memory.specs.Whole.{outs_within, slots_within}
 use Rattle.pager_core.specs.Pager.{PagerState, with_list}
 use Rattle.space_core.specs.StandsFor.{SpaceValue}

@@ -5,11 +5,11 @@ use Rattle.flat_machine.specs.declared.end.End.{End}
 use Rattle.frame_pool.specs.FrameValue.{FrameValue}
 use Rattle.swap_slots.specs.PoolValue.{PoolValue}
 use Rattle.paged_memory.specs.Counting.{frame_passes}
-use Rattle.paged_memory.proofs.GivenLaws.{has_given, none_given, then_given, all_pages, all_entries}
-use Rattle.paged_memory.specs.Moving.{GivesBelow, GivesIn, HasNothingBelow, EmptiesCaches, SameCaches, SameTablesIn, slots_below, with_slot}
+use Rattle.paged_memory.proofs.move_laws.GivenLaws.{has_given, none_given, then_given, all_pages, all_entries}
+use Rattle.paged_memory.specs.moves.Moving.{GivesBelow, GivesIn, HasNothingBelow, EmptiesCaches, SameCaches, SameTablesIn, slots_below, with_slot}
 use Rattle.paged_memory.proofs.NoticesLaws.{empties_as}
 use Rattle.paged_memory.specs.Paged.{PagedValue}
-use Rattle.paged_memory.proofs.SlotsLaws.{none_gives_below, one_gives_below, all_gives_below}
+use Rattle.paged_memory.proofs.move_laws.SlotsLaws.{none_gives_below, one_gives_below, all_gives_below}
 use Rattle.paged_memory.specs.Whole.{harts_in}
 use Rattle.pager_core.specs.Pager.{PagerState}
 use Rattle.space_core.specs.Caches.{if_ended, emptied}

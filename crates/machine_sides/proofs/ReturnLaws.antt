@@ -6,7 +6,7 @@ use Rattle.clock_policy.proofs.AdmitLaws.{restored_residents}
 use Rattle.clock_policy.specs.ClockPro.{restored}
 use Rattle.clock_policy.proofs.KeptLaws.{restored_frames}
 use Rattle.clock_policy.specs.Residents.{residents}
-use Rattle.paged_memory.proofs.LeaveLaws.{HasReturned, returned}
+use Rattle.paged_memory.proofs.move_laws.LeaveLaws.{HasReturned, returned}
 use Rattle.machine_sides.specs.Returning.{ListsAgain, MapsAgain, ComesBack}
 use Rattle.machine_sides.specs.Sides.{PagerSideValue}
 use Rattle.machine_sides.specs.Together.{Together, residents_in, frames_in, frames_where, key_of}

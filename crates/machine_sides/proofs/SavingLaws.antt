@@ -6,12 +6,12 @@ use Rattle.clock_policy.specs.Lawful.{Lawful}
 use Rattle.clock_policy.specs.Residents.{residents}
 use Rattle.frame_pool.specs.FrameValue.{FrameValue}
 use Rattle.page_store.specs.JobValue.{SavedValue}
-use Rattle.paged_memory.proofs.LeaveLaws.{returned}
-use Rattle.paged_memory.specs.Copies.{LeavesCopies}
-use Rattle.paged_memory.proofs.CopiesToldLaws.{leaves_on}
-use Rattle.paged_memory.specs.Moving.{SamePage}
-use Rattle.paged_memory.proofs.SaveLaws.{gone_away, leaving_again}
-use Rattle.paged_memory.specs.Stages.{is_saving_stage}
+use Rattle.paged_memory.proofs.move_laws.LeaveLaws.{returned}
+use Rattle.paged_memory.specs.cleaning.Copies.{LeavesCopies}
+use Rattle.paged_memory.proofs.cleaning_laws.CopiesToldLaws.{leaves_on}
+use Rattle.paged_memory.specs.moves.Moving.{SamePage}
+use Rattle.paged_memory.proofs.move_laws.SaveLaws.{gone_away, leaving_again}
+use Rattle.paged_memory.specs.moves.Stages.{is_saving_stage}
 use Rattle.paged_memory.specs.Whole.{stage_in, slots_within}
 use Rattle.pager_core.specs.Pager.{PagerState}
 use Rattle.space_core.specs.StandsFor.{SpaceValue}

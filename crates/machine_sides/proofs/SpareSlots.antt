@@ -2,10 +2,10 @@
 use Rattle.std.proofs.Common.{◌≡◌, ℕ, ◌+◌, ◌^◌, ◌<◌, ◌≤◌, Bool, false, List, Option, Some, None, [], ◌∷◌, ◌++◌, IsNone, IfSome, IfNone, ◌↔◌, length, length-append, refl, sym, ap, ◌∙◌, arith, subst}
 use Rattle.page_store.specs.declared.answer.CleanCopy.{CleanCopy}
 use Rattle.page_store.specs.declared.answer.CleanCopy.TheVariants as copied
-use Rattle.paged_memory.proofs.CleanLaws.{CopyComesTo, copy_comes_to}
-use Rattle.paged_memory.specs.Cleaning.{CopiesPage, CopiesOut, settles}
-use Rattle.paged_memory.proofs.LooksLaws.{TakesSpare}
-use Rattle.paged_memory.specs.Moving.{OnlyPages, with_pages, slot_in}
+use Rattle.paged_memory.proofs.cleaning_laws.CleanLaws.{CopyComesTo, copy_comes_to}
+use Rattle.paged_memory.specs.cleaning.Cleaning.{CopiesPage, CopiesOut, settles}
+use Rattle.paged_memory.proofs.access_laws.LooksLaws.{TakesSpare}
+use Rattle.paged_memory.specs.moves.Moving.{OnlyPages, with_pages, slot_in}
 use Rattle.paged_memory.specs.Paged.{PagedValue}
 use Rattle.space_core.specs.StandsFor.{SpaceValue}
 use Rattle.swap_slots.specs.PoolValue.{PoolValue}

@@ -10,9 +10,9 @@ use Rattle.clock_policy.specs.ClockPro.{answered}
 use Rattle.clock_policy.specs.Lawful.{Lawful}
 use Rattle.clock_policy.specs.Residents.{residents, is_gone, takes}
 use Rattle.clock_policy.proofs.ResidentLaws.{answered_residents}
-use Rattle.paged_memory.proofs.CopiesToldLaws.{leaves_on}
-use Rattle.paged_memory.proofs.AlikeLaws.{CountsAlike, same_memory, stay_on}
-use Rattle.paged_memory.proofs.LeaveLaws.{forgets_alike, HasBegun, begun}
+use Rattle.paged_memory.proofs.cleaning_laws.CopiesToldLaws.{leaves_on}
+use Rattle.paged_memory.proofs.access_laws.AlikeLaws.{CountsAlike, same_memory, stay_on}
+use Rattle.paged_memory.proofs.move_laws.LeaveLaws.{forgets_alike, HasBegun, begun}
 use Rattle.pager_core.specs.Pager.{PagerState, pager_answered}
 use Rattle.space_core.specs.StandsFor.{SpaceValue}
 use Rattle.machine_sides.specs.Sides.{PagerSideValue}

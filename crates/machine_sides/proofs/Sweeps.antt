@@ -13,10 +13,10 @@ use Rattle.clock_policy.specs.declared.refusal.Refusal.{Refusal}
 use Rattle.clock_policy.proofs.ResidentLaws.{victim_asked}
 use Rattle.clock_policy.specs.ClockPro.{ClockState, question_of, answered, asked_entry, entry_answered, kind_answered, gone_on}
 use Rattle.clock_policy.specs.Residents.{is_gone}
-use Rattle.paged_memory.proofs.AlikeLaws.{same_stage}
-use Rattle.paged_memory.proofs.LeaveLaws.{forgets_pages, accessed_stage}
-use Rattle.paged_memory.specs.Moving.{SamePage}
-use Rattle.paged_memory.specs.Stages.{is_resident_stage}
+use Rattle.paged_memory.proofs.access_laws.AlikeLaws.{same_stage}
+use Rattle.paged_memory.proofs.move_laws.LeaveLaws.{forgets_pages, accessed_stage}
+use Rattle.paged_memory.specs.moves.Moving.{SamePage}
+use Rattle.paged_memory.specs.moves.Stages.{is_resident_stage}
 use Rattle.paged_memory.specs.Whole.{stage_in, accessed_in}
 use Rattle.space_core.specs.StandsFor.{SpaceValue}
 use Rattle.pager_core.specs.Pager.{PagerState, pager_answered}

@@ -1,9 +1,9 @@
 -- Counts of a process's pages by their keys are counts by their numbers.
 use Rattle.std.proofs.Common.{◌≡◌, ℕ, ◌+◌, Bool, cond, ap, ◌∙◌}
 use Rattle.clock_policy.specs.declared.key.Key.{Key}
-use Rattle.paged_memory.proofs.AlikeLaws.{SavingsStay, CountsAlike}
-use Rattle.paged_memory.specs.Copies.{LeavesCopies, copies_among}
-use Rattle.paged_memory.proofs.CopiesMoveLaws.{leaves_among}
+use Rattle.paged_memory.proofs.access_laws.AlikeLaws.{SavingsStay, CountsAlike}
+use Rattle.paged_memory.specs.cleaning.Copies.{LeavesCopies, copies_among}
+use Rattle.paged_memory.proofs.cleaning_laws.CopiesMoveLaws.{leaves_among}
 use Rattle.paged_memory.specs.Whole.{residents_among, savings_among, frames_among, slots_within}
 use Rattle.space_core.specs.StandsFor.{SpaceValue}
 use Rattle.machine_sides.specs.Together.{residents_in, savings_in, copies_in, frames_in, key_of}

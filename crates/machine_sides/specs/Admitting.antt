@@ -5,7 +5,7 @@ use Rattle.clock_policy.specs.ClockPro.{ClockState, kind_of, withdrawn}
 use Rattle.clock_policy.specs.Lawful.{Lawful}
 use Rattle.frame_pool.specs.FrameValue.{FrameValue}
 use Rattle.page_store.specs.declared.state.PageState.{PageState}
-use Rattle.paged_memory.specs.Stages.{is_absent_stage, is_resident_stage}
+use Rattle.paged_memory.specs.moves.Stages.{is_absent_stage, is_resident_stage}
 use Rattle.paged_memory.specs.Whole.{stage_in}
 use Rattle.pager_core.specs.declared.refusal.AdmitRefusal.{AdmitRefusal}
 use Rattle.pager_core.specs.declared.refusal.AdmitRefusal.TheVariants as pager

@@ -4,7 +4,7 @@ use Rattle.clock_policy.specs.declared.key.Key.{Key}
 use Rattle.clock_policy.specs.ClockPro.{question_of}
 use Rattle.clock_policy.specs.Lawful.{Lawful}
 use Rattle.clock_policy.specs.Residents.{residents, is_key, has_resident}
-use Rattle.paged_memory.specs.Moving.{SamePage}
+use Rattle.paged_memory.specs.moves.Moving.{SamePage}
 use Rattle.pager_core.specs.Pager.{PagerState}
 use Rattle.space_core.specs.StandsFor.{SpaceValue}
 use Rattle.machine_sides.specs.declared.purging.Purging.{Purging}

@@ -6,8 +6,8 @@ use Rattle.page_store.specs.declared.answer.CleanCopy.TheVariants as copied
 use Rattle.page_store.specs.declared.answer.Cleaned.{Cleaned}
 use Rattle.page_store.specs.declared.refusal.CleanRefusal.{CleanRefusal}
 use Rattle.page_store.specs.declared.refusal.CleanRefusal.TheVariants as refusal
-use Rattle.paged_memory.specs.Cleaning.{BeginsCleaning, CopiesPage, CopiesBack, CopiesOut, EndsCleaningIn, clean_refusal_in, is_cleaning_in, settles}
-use Rattle.paged_memory.specs.Moving.{OnlyPages, slot_in}
+use Rattle.paged_memory.specs.cleaning.Cleaning.{BeginsCleaning, CopiesPage, CopiesBack, CopiesOut, EndsCleaningIn, clean_refusal_in, is_cleaning_in, settles}
+use Rattle.paged_memory.specs.moves.Moving.{OnlyPages, slot_in}
 use Rattle.space_core.specs.StandsFor.{SpaceValue}
 use Rattle.swap_slots.specs.PoolValue.{PoolValue}
 use Rattle.machine_sides.specs.Collecting.{TakesSlot}

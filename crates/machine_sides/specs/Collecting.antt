@@ -6,8 +6,8 @@ use Rattle.page_store.specs.JobValue.{JobValue}
 use Rattle.page_store.specs.declared.answer.Collected.{Collected}
 use Rattle.page_store.specs.declared.answer.Collected.TheVariants as answer
 use Rattle.pager_core.specs.Pager.{tallied}
-use Rattle.paged_memory.specs.Moving.{IsHeldStill, WantsSlot, GoesToBacking, GoesToBeSaved, slot_in}
-use Rattle.paged_memory.specs.Stages.{is_leaving_stage}
+use Rattle.paged_memory.specs.moves.Moving.{IsHeldStill, WantsSlot, GoesToBacking, GoesToBeSaved, slot_in}
+use Rattle.paged_memory.specs.moves.Stages.{is_leaving_stage}
 use Rattle.space_core.specs.StandsFor.{SpaceValue}
 use Rattle.swap_slots.specs.PoolValue.{PoolValue}
 use Rattle.machine_sides.specs.Admitting.{stage_at}

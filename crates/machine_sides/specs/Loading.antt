@@ -1,6 +1,6 @@
 -- An admitted page is brought into its frame, or not.
 use Rattle.std.specs.Prelude.{◌≡◌, ℕ, ◌^◌, ◌<◌, ◌≤◌, List}
-use Rattle.paged_memory.specs.Moving.{ComesIn, RefusesIn, SameCaches, SameEntries}
+use Rattle.paged_memory.specs.moves.Moving.{ComesIn, RefusesIn, SameCaches, SameEntries}
 use Rattle.paged_memory.specs.Paged.{memory_of}
 use Rattle.paged_memory.specs.declared.filling.PageInFault.{PageInFault}
 use Rattle.paged_memory.specs.declared.filling.PageInFault.TheVariants.{NotAbsent}

@@ -1,6 +1,6 @@
 -- What a process shows of a page, whatever its number: nothing where none is mapped.
 use Rattle.std.specs.Prelude.{ℕ, ◌^◌, nat_lt, is_some, Option, None, if◌then◌else◌}
-use Rattle.paged_memory.specs.PageStatus.{status_in}
+use Rattle.paged_memory.specs.moves.PageStatus.{status_in}
 use Rattle.paged_memory.specs.declared.status.PageStatus.{PageStatus}
 use Rattle.space_core.specs.StandsFor.{SpaceValue}
 

@@ -7,9 +7,9 @@ use Rattle.flat_machine.specs.declared.end.KillCause.{KillCause}
 use Rattle.flat_machine.specs.declared.end.End.TheVariants.{Killed as KilledBy}
 use Rattle.rv_exec.specs.Outcomes.{Used}
 use Rattle.paged_memory.specs.Coheres.{Coheres}
-use Rattle.paged_memory.specs.HartMemory.{MarksSince}
-use Rattle.paged_memory.specs.Notices.{noticed}
-use Rattle.paged_memory.specs.Using.{cache_in, HasIn, LacksIn, MarkedIn}
+use Rattle.paged_memory.specs.access.HartMemory.{MarksSince}
+use Rattle.paged_memory.specs.access.Notices.{noticed}
+use Rattle.paged_memory.specs.access.Using.{cache_in, HasIn, LacksIn, MarkedIn}
 use Rattle.space_core.specs.Caches.{if_killed}
 use Rattle.space_core.specs.Next.{next_pages, answered, begun}
 use Rattle.space_core.specs.Slices.{EachStep, BoundsEach, StopsRecorded}

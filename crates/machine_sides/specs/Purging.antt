@@ -4,8 +4,8 @@ use Rattle.clock_policy.specs.ClockPro.{purged}
 use Rattle.frame_pool.specs.FrameValue.{FrameValue}
 use Rattle.swap_slots.specs.PoolValue.{PoolValue}
 use Rattle.paged_memory.specs.Counting.{frame_passes}
-use Rattle.paged_memory.specs.Moving.{GivesBelow, IsGiven, IsLeft, EmptiesCaches, SameTablesIn, slots_below, with_slot}
-use Rattle.paged_memory.specs.Moving as moving
+use Rattle.paged_memory.specs.moves.Moving.{GivesBelow, IsGiven, IsLeft, EmptiesCaches, SameTablesIn, slots_below, with_slot}
+use Rattle.paged_memory.specs.moves.Moving as moving
 use Rattle.paged_memory.specs.Paged.{PagedValue}
 use Rattle.paged_memory.specs.Whole.{outs_within, slots_within}
 use Rattle.pager_core.specs.Pager.{PagerState}

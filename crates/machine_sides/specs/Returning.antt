@@ -6,7 +6,7 @@ use Rattle.clock_policy.specs.declared.refusal.Refusal.TheVariants.{NoMemory}
 use Rattle.clock_policy.specs.ClockPro.{kind_of, restored}
 use Rattle.clock_policy.specs.Lawful.{Lawful}
 use Rattle.pager_core.specs.Pager.{with_list}
-use Rattle.paged_memory.specs.Moving as moving
+use Rattle.paged_memory.specs.moves.Moving as moving
 use Rattle.machine_sides.specs.Sides.{PagerSideValue, MovesMemory}
 use Rattle.machine_sides.specs.Together.{key_of}
 use Rattle.space_core.specs.StandsFor.{SpaceValue}

@@ -3,10 +3,10 @@ use Rattle.std.specs.Prelude.{◌≡◌, ◌≢◌, ℕ, Bool, ◌++◌, [], ◌
 use Rattle.clock_policy.specs.declared.refusal.Refusal.{Refusal}
 use Rattle.frame_pool.specs.FrameValue.{FrameValue}
 use Rattle.page_store.specs.JobValue.{SavedValue}
-use Rattle.paged_memory.specs.Moving.{SavedAway, IsOutOf}
-use Rattle.paged_memory.specs.Moving as moving
+use Rattle.paged_memory.specs.moves.Moving.{SavedAway, IsOutOf}
+use Rattle.paged_memory.specs.moves.Moving as moving
 use Rattle.paged_memory.specs.Paged.{PagedValue}
-use Rattle.paged_memory.specs.Stages.{is_saving_stage}
+use Rattle.paged_memory.specs.moves.Stages.{is_saving_stage}
 use Rattle.pager_core.specs.Pager.{tallied}
 use Rattle.space_core.specs.StandsFor.{SpaceValue}
 use Rattle.machine_sides.specs.Admitting.{stage_at}

@@ -2,7 +2,7 @@
 use Rattle.std.specs.Prelude.{◌≡◌, ℕ, List, length, Option, Some, Result, OnOk, OnErr, IfErr}
 use Rattle.flat_machine.specs.Process.{Process, opening, flat_run}
 use Rattle.flat_machine.specs.Schedule.{written_out}
-use Rattle.paged_memory.specs.Moving.{ShowsIn, LeavesLookedAt, DoesNotShow, with_pages}
+use Rattle.paged_memory.specs.moves.Moving.{ShowsIn, LeavesLookedAt, DoesNotShow, with_pages}
 use Rattle.paged_memory.specs.Paged.{memory_of}
 use Rattle.paged_memory.specs.Peeking.{bytes_of}
 use Rattle.paged_memory.specs.declared.peeking.PeekFault.{PeekFault}

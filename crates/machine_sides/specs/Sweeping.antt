@@ -6,7 +6,7 @@ use Rattle.clock_policy.specs.declared.answer.Bit.TheVariants.{Zero, One, Gone}
 use Rattle.clock_policy.specs.declared.answer.Verdict.{Verdict}
 use Rattle.clock_policy.specs.declared.answer.Verdict.TheVariants as verdict
 use Rattle.clock_policy.specs.ClockPro.{question_of, answered}
-use Rattle.paged_memory.specs.Moving.{ForgetsUse, BeginsToLeave}
+use Rattle.paged_memory.specs.moves.Moving.{ForgetsUse, BeginsToLeave}
 use Rattle.paged_memory.specs.Whole.{accessed_in}
 use Rattle.pager_core.specs.Pager.{pager_answered}
 use Rattle.space_core.specs.StandsFor.{SpaceValue}

@@ -3,7 +3,7 @@ use Rattle.std.specs.Prelude.{◌≡◌, ℕ, ◌+◌, Bool, cond, List, [], ◌
 use Rattle.frame_pool.specs.FrameValue.{FrameValue}
 use Rattle.clock_policy.specs.declared.key.Key.{Key}
 use Rattle.clock_policy.specs.Residents.{residents}
-use Rattle.paged_memory.specs.Copies.{copies_among}
+use Rattle.paged_memory.specs.cleaning.Copies.{copies_among}
 use Rattle.paged_memory.specs.Whole.{residents_among, frames_among, savings_among}
 use Rattle.pager_core.specs.Pager.{PagerState}
 use Rattle.space_core.specs.StandsFor.{SpaceValue}

@@ -1,7 +1,7 @@
 //! Cleans a changed page while it stays in use: the beginning, the copy, and the end when the copy is back.
 
 ghost use Rattle.std.specs.Prelude.{◌≡◌, ◌<◌, ◌^◌, None, OnOk, OnErr, IfOk};
-ghost use Rattle.paged_memory.specs.Cleaning.{refused_of};
+ghost use Rattle.paged_memory.specs.cleaning.Cleaning.{refused_of};
 ghost use Rattle.paged_memory.specs.Paged.{memory_of};
 ghost use Rattle.machine_sides.specs.Cleaning.{Copies, PageCopied, SpareBack, StartsCleaning};
 ghost use Rattle.machine_sides.specs.Cleaning.{TakesCopyBack, clean_bars, copy_bars};

@@ -2,7 +2,7 @@
 
 ghost use Rattle.std.specs.Prelude.{◌≡◌, ◌<◌, ◌^◌, true, OnOk, IfErr};
 ghost use Rattle.paged_memory.specs.Paged.{memory_of};
-ghost use Rattle.paged_memory.specs.Stages.{is_leaving_stage};
+ghost use Rattle.paged_memory.specs.moves.Stages.{is_leaving_stage};
 ghost use Rattle.paged_memory.specs.Whole.{stage_in};
 ghost use Rattle.machine_sides.specs.Returning.{ComesBack, StaysLeaving};
 
@@ -13,7 +13,7 @@ use std::sync::ledger::Ledger;
 use swap_slots::SwapSlot;
 
 /// Lists a page that is leaving again, and then maps it again. Where the list does not take it, it is leaving still.
-#[tactic(auto, using(paged_memory::proofs::MovingLaws::same_reserved))]
+#[tactic(auto, using(paged_memory::proofs::move_laws::MovingLaws::same_reserved))]
 pub(crate) fn bring_back<L: Ledger, S: SwapSlot, C: Clock>(
     pager: &mut PagerSide<L, C>,
     process: &mut Space<L, S>,

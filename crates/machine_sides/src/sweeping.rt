@@ -5,7 +5,7 @@ ghost use Rattle.clock_policy.specs.ClockPro.{question_of};
 ghost use Rattle.clock_policy.specs.Lawful.{Lawful};
 ghost use Rattle.machine_sides.specs.Agreeing.{AgreeStill, AsksOf};
 ghost use Rattle.machine_sides.specs.Sweeping.{bit_at, Evicts, ReadsBit, Sweeps};
-ghost use Rattle.paged_memory.specs.Stages.{is_resident_stage};
+ghost use Rattle.paged_memory.specs.moves.Stages.{is_resident_stage};
 ghost use Rattle.paged_memory.specs.Whole.{stage_in};
 
 use crate::pager_side::PagerSide;
@@ -79,7 +79,7 @@ fn read_bit<L: Ledger, S: SwapSlot>(space: &mut Space<L, S>, vpn: u32) -> Bit
 }
 
 /// A resident page begins to leave its frame.
-#[tactic(auto, using(paged_memory::proofs::MovingLaws::same_reserved))]
+#[tactic(auto, using(paged_memory::proofs::move_laws::MovingLaws::same_reserved))]
 fn evict<L: Ledger, S: SwapSlot>(space: &mut Space<L, S>, vpn: u32)
     requires small { vpn < 2 ^ 20 }
     requires resident { is_resident_stage (stage_in space.old.memory vpn) ≡ true }

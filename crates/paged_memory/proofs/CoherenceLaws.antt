@@ -24,8 +24,8 @@ use Rattle.tlb_core.specs.Cache.{translation_of}
 use Rattle.tlb_core.proofs.CacheLaws.{none-All}
 use Rattle.paged_memory.specs.Seen.{Seen, Standing, Resident, Leaving, Elsewhere, entry_seen, entry_standing, rights_seen, takes_stores, dirty_standing, is_loose_standing, is_used, used_standing}
 use Rattle.paged_memory.specs.Soundness.{IsSound}
-use Rattle.paged_memory.specs.Access.{is_resident, is_resident_standing}
-use Rattle.paged_memory.specs.Copies.{if_out, told_of_place, told_of_page}
+use Rattle.paged_memory.specs.access.Access.{is_resident, is_resident_standing}
+use Rattle.paged_memory.specs.cleaning.Copies.{if_out, told_of_place, told_of_page}
 use Rattle.paged_memory.specs.Paged.{page_at, seen_at, seen_of, standing_of, Holds}
 use Rattle.paged_memory.specs.Coherence.{led, led_standing, MarksClear, HoldsFramed, CopiesUnmarked, WalksLead}
 use Rattle.paged_memory.proofs.SoundnessLaws.{unheld_elsewhere}

@@ -12,7 +12,7 @@ use Rattle.page_store.specs.PageValue.{PageValue, Place, Fresh, Resident, Leavin
 use Rattle.tlb_core.specs.declared.translation.Translation.{Translation}
 use Rattle.sv32_table.specs.EntryAt.{entry_at}
 use Rattle.paged_memory.specs.Paged.{page_at, flat_page, flat_pages, Holds, IsUntouched, ChangesPage}
-use Rattle.paged_memory.proofs.PagedLaws.{choice_here, choice_other}
+use Rattle.paged_memory.proofs.move_laws.PagedLaws.{choice_here, choice_other}
 
 -- the pages of one memory that may not be written are in another, as they are
 abbrev pub SameUnwritten : Pages → Pages → Type 0

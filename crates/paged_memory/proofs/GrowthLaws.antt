@@ -21,10 +21,10 @@ use Rattle.tlb_core.specs.declared.translation.Translation.{Translation}
 use Rattle.paged_memory.specs.Seen.{entry_seen, frame_seen}
 use Rattle.paged_memory.specs.Paged.{PagedValue, seen_of, page_at, seen_at, flat_page, flat_pages, memory_in, Holds, ChangesPage}
 use Rattle.page_store.specs.Lending.{with_bytes}
-use Rattle.paged_memory.specs.HartMemory.{KeepsPages}
-use Rattle.paged_memory.specs.HartMemoryLaws.{pages_itself, pages_on}
+use Rattle.paged_memory.specs.access.HartMemory.{KeepsPages}
+use Rattle.paged_memory.specs.access.HartMemoryLaws.{pages_itself, pages_on}
 use Rattle.paged_memory.proofs.SoundnessLaws.{unheld_elsewhere}
-use Rattle.paged_memory.proofs.PagedLaws.{Change, get-page_at, page_at-nowhere, swap_key, changes_no_entry, Holds-unheld}
+use Rattle.paged_memory.proofs.move_laws.PagedLaws.{Change, get-page_at, page_at-nowhere, swap_key, changes_no_entry, Holds-unheld}
 
 readable_zero : (rights : Rights) → Some read_write ≡ Some rights → may Load rights ≡ true
 readable_zero rights is = let same : read_write ≡ rights = same_Some _ _ is in subst (λ r. may Load r ≡ true) same refl

@@ -5,8 +5,8 @@ use Rattle.page_memory.specs.Entries.{place_of}
 use Rattle.page_store.specs.PageValue.{PageValue, Place, Fresh, Resident, Leaving, Saving, Away, Purged, frame_of, page_state_of}
 use Rattle.paged_memory.specs.Counting.{page_passes, pages_below, is_resident_place, frame_passes}
 use Rattle.paged_memory.specs.Paged.{page_at}
-use Rattle.paged_memory.specs.Stages.{is_resident_stage, has_frame_stage}
-use Rattle.paged_memory.proofs.PagedLaws.{page_at-nowhere}
+use Rattle.paged_memory.specs.moves.Stages.{is_resident_stage, has_frame_stage}
+use Rattle.paged_memory.proofs.move_laws.PagedLaws.{page_at-nowhere}
 
 module _ {S : Type 0} where
   -- what a page's place tells of it

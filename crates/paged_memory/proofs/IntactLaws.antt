@@ -14,11 +14,11 @@ use Rattle.page_store.specs.PageValue as place
 use Rattle.page_store.specs.declared.state.PageState.{PageState}
 use Rattle.page_store.specs.declared.state.PageState.TheVariants.{Purged}
 use Rattle.paged_memory.specs.Calls.{ChangesBy}
-use Rattle.paged_memory.specs.Filling.{StaysAbsent}
+use Rattle.paged_memory.specs.moves.Filling.{StaysAbsent}
 use Rattle.paged_memory.specs.Fresh.{all_fresh, fresh, HasFresh}
-use Rattle.paged_memory.specs.HartMemory.{KeepsPages}
-use Rattle.paged_memory.specs.Moving.{BeginsToLeave, ComesIn, ForgetsUse, GoesToBacking, GoesToBeSaved, LeavesAgain, MapsAgain, RefusesIn, SavedAway, dropped_to, emptied_to}
-use Rattle.paged_memory.specs.Notices.{dropped, emptied, noticed}
+use Rattle.paged_memory.specs.access.HartMemory.{KeepsPages}
+use Rattle.paged_memory.specs.moves.Moving.{BeginsToLeave, ComesIn, ForgetsUse, GoesToBacking, GoesToBeSaved, LeavesAgain, MapsAgain, RefusesIn, SavedAway, dropped_to, emptied_to}
+use Rattle.paged_memory.specs.access.Notices.{dropped, emptied, noticed}
 use Rattle.paged_memory.specs.Paged.{PagedValue, page_at}
 use Rattle.paged_memory.specs.Whole.{stage_in}
 use Rattle.paged_memory.specs.declared.filling.PageInFault.{PageInFault}

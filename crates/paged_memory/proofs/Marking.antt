@@ -11,8 +11,8 @@ use Rattle.rv_exec.specs.Bounds.{Pass, Bounds}
 use Rattle.rv_exec.specs.Uses.{page_of_access}
 use Rattle.sv32_table.specs.Entry.{Entry, shape_of, allows, touched}
 use Rattle.sv32_table.specs.EntryAt.{entry_at, ChangesEntry, is_leaf, walked_entry}
-use Rattle.paged_memory.specs.Access.{MayWalk}
-use Rattle.paged_memory.specs.HartMemory.{MarksWithin}
+use Rattle.paged_memory.specs.access.Access.{MayWalk}
+use Rattle.paged_memory.specs.access.HartMemory.{MarksWithin}
 
 -- an access that may be a store: it stores to its pages
 abbrev pub stores_of : Access → List ℕ → List ℕ

@@ -5,11 +5,11 @@ use Rattle.std.proofs.lemmas.List.{length-map}
 use Rattle.std.proofs.lemmas.List.Elements.{All-nil, All-cons}
 use Rattle.page_store.specs.declared.refusal.CleanRefusal.{CleanRefusal}
 use Rattle.page_store.specs.declared.refusal.LeaveRefusal.{LeaveRefusal}
-use Rattle.paged_memory.specs.Cleaning.{BeginsCleaning}
+use Rattle.paged_memory.specs.cleaning.Cleaning.{BeginsCleaning}
 use Rattle.tlb_core.specs.Cache.{doomed}
 use Rattle.tlb_core.specs.declared.translation.Translation.{Translation}
-use Rattle.paged_memory.specs.Moving.{BeginsToLeave, EmptiesCaches, ForgetsUse, HasNothingBelow, OnlyCaches}
-use Rattle.paged_memory.specs.Notices.{emptied}
+use Rattle.paged_memory.specs.moves.Moving.{BeginsToLeave, EmptiesCaches, ForgetsUse, HasNothingBelow, OnlyCaches}
+use Rattle.paged_memory.specs.access.Notices.{emptied}
 use Rattle.paged_memory.specs.Paged.{PagedValue}
 use Rattle.paged_memory.specs.Whole.{harts_in}
 

@@ -9,11 +9,11 @@ use Rattle.page_store.specs.PageValue as place
 use Rattle.page_store.specs.declared.state.PageState.{PageState}
 use Rattle.page_store.specs.declared.state.PageState.TheVariants as stage
 use Rattle.paged_memory.specs.Calls.{ChangesBy}
-use Rattle.paged_memory.specs.Filling.{FailsToLoad, StaysAbsent}
-use Rattle.paged_memory.specs.Moving.{DoesNotShow, LeavesLookedAt}
+use Rattle.paged_memory.specs.moves.Filling.{FailsToLoad, StaysAbsent}
+use Rattle.paged_memory.specs.moves.Moving.{DoesNotShow, LeavesLookedAt}
 use Rattle.paged_memory.specs.Paged.{PagedValue, page_at}
 use Rattle.paged_memory.specs.Peeking.{LeavesPage, LeavesPlace}
-use Rattle.paged_memory.proofs.StillLaws.{still_where}
+use Rattle.paged_memory.proofs.move_laws.StillLaws.{still_where}
 use Rattle.paged_memory.specs.Whole.{rights_in, stage_in}
 use Rattle.paged_memory.specs.declared.peeking.PeekFault.TheVariants as fault
 

@@ -14,10 +14,10 @@ use Rattle.swap_slots.specs.Slot.{Rose}
 use Rattle.tlb_core.specs.declared.translation.Translation.{Translation}
 use Rattle.paged_memory.specs.Paged.{page_at, flat_page, flat_pages, memory_in, Holds}
 use Rattle.paged_memory.specs.Calls.{ChangesBy}
-use Rattle.paged_memory.specs.Filling.{StaysAbsent, FailsToLoad}
+use Rattle.paged_memory.specs.moves.Filling.{StaysAbsent, FailsToLoad}
 use Rattle.paged_memory.specs.Peeking.{bytes_of, ShowsBytes, LeavesPlace, LeavesPage}
-use Rattle.paged_memory.proofs.PagedLaws.{changed_by, page_at-place}
-use Rattle.paged_memory.proofs.FillingLaws.{holds_absent, memory_absent, unwritten_absent}
+use Rattle.paged_memory.proofs.move_laws.PagedLaws.{changed_by, page_at-place}
+use Rattle.paged_memory.proofs.move_laws.FillingLaws.{holds_absent, memory_absent, unwritten_absent}
 use Rattle.paged_memory.proofs.ConstancyLaws.{unwritten_same, SameUnwritten}
 
 -- a value that is put back at its place

@@ -25,19 +25,19 @@ use Rattle.page_store.specs.declared.answer.Cleaned.{Cleaned}
 use Rattle.page_store.specs.declared.answer.Cleaned.TheVariants as end
 use Rattle.page_store.specs.declared.refusal.CleanRefusal.{CleanRefusal}
 use Rattle.sv32_table.specs.EntryAt.{entry_at, dirty_of}
-use Rattle.paged_memory.specs.Cleaning.{BeginsCleaning, CopiesAt, CopiesPage, EndsCleaningIn}
+use Rattle.paged_memory.specs.cleaning.Cleaning.{BeginsCleaning, CopiesAt, CopiesPage, EndsCleaningIn}
 use Rattle.page_store.specs.Keeping.{Keeping}
 use Rattle.paged_memory.specs.Calls.{ChangesBy}
-use Rattle.paged_memory.specs.Filling.{RefusesPageIn}
-use Rattle.paged_memory.specs.GivingBack.{GivesOne}
-use Rattle.paged_memory.specs.Leaving.{CollectsAt}
-use Rattle.paged_memory.specs.Moving.{BeginsToLeave, ComesIn, ForgetsUse, GivesIn, IsNotSaved, LooksAt, MapsAgain, OnlyCaches, RefusesIn, SavedAway, ShowsIn}
-use Rattle.paged_memory.specs.Notices.{emptied}
+use Rattle.paged_memory.specs.moves.Filling.{RefusesPageIn}
+use Rattle.paged_memory.specs.moves.GivingBack.{GivesOne}
+use Rattle.paged_memory.specs.moves.Leaving.{CollectsAt}
+use Rattle.paged_memory.specs.moves.Moving.{BeginsToLeave, ComesIn, ForgetsUse, GivesIn, IsNotSaved, LooksAt, MapsAgain, OnlyCaches, RefusesIn, SavedAway, ShowsIn}
+use Rattle.paged_memory.specs.access.Notices.{emptied}
 use Rattle.paged_memory.specs.Paged.{PagedValue, page_at, flat_page, flat_pages, memory_in, memory_of}
 use Rattle.paged_memory.specs.Peeking.{bytes_of, ShowsBytes, LeavesPage, LeavesPlace}
 use Rattle.paged_memory.specs.Showing.{rights_of, paged_rights, is_purged, is_purged_place, is_given_up, KeepsGivenUp, ShowsFlat}
 use Rattle.paged_memory.specs.Soundness.{is_held, is_marked}
-use Rattle.paged_memory.specs.Using.{KeepsIn}
+use Rattle.paged_memory.specs.access.Using.{KeepsIn}
 use Rattle.paged_memory.specs.Whole.{rights_in, shown_in}
 use Rattle.paged_memory.specs.declared.filling.PageInFault.{PageInFault}
 use Rattle.paged_memory.specs.declared.filling.PageInFault.TheVariants as fault

@@ -9,9 +9,9 @@ use Rattle.rv_exec.specs.declared.bus.BusError.{BusError}
 use Rattle.rv_exec.specs.Answers.{Answers}
 use Rattle.sv32_table.specs.EntryAt.{entry_at}
 use Rattle.tlb_core.specs.declared.translation.Translation.{Translation}
-use Rattle.paged_memory.specs.Access.{KeepsBare, MarksUse, cache_of}
-use Rattle.paged_memory.specs.HartMemory.{InTurn, MarksSince}
-use Rattle.paged_memory.specs.HartMemoryLaws.{seen_bare, served_before}
+use Rattle.paged_memory.specs.access.Access.{KeepsBare, MarksUse, cache_of}
+use Rattle.paged_memory.specs.access.HartMemory.{InTurn, MarksSince}
+use Rattle.paged_memory.specs.access.HartMemoryLaws.{seen_bare, served_before}
 use Rattle.paged_memory.specs.Paged.{PagedValue, page_at, seen_at, seen_of}
 use Rattle.paged_memory.specs.Seen.{is_used}
 

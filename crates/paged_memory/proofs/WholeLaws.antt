@@ -11,14 +11,14 @@ use Rattle.rv_exec.specs.Answers.{BusRefuses}
 use Rattle.rv_exec.specs.declared.bus.BusError.{BusError}
 use Rattle.page_store.specs.PageValue.{PageValue}
 use Rattle.tlb_core.specs.declared.translation.Translation.{Translation}
-use Rattle.paged_memory.specs.Access.{HasPage, KeepsTranslations, LacksPage, MarksUse, TakesStores, cache_of}
-use Rattle.paged_memory.specs.Accesses.{Reads, Writes}
-use Rattle.paged_memory.specs.HartMemory.{InTurn}
-use Rattle.paged_memory.specs.HartMemoryLaws.{still_in_turn}
-use Rattle.paged_memory.specs.OnePage.{AnswersUse, UsesPage, WritesPage}
+use Rattle.paged_memory.specs.access.Access.{HasPage, KeepsTranslations, LacksPage, MarksUse, TakesStores, cache_of}
+use Rattle.paged_memory.specs.access.Accesses.{Reads, Writes}
+use Rattle.paged_memory.specs.access.HartMemory.{InTurn}
+use Rattle.paged_memory.specs.access.HartMemoryLaws.{still_in_turn}
+use Rattle.paged_memory.specs.access.OnePage.{AnswersUse, UsesPage, WritesPage}
 use Rattle.paged_memory.specs.Paged.{PagedValue, memory_of}
-use Rattle.paged_memory.proofs.OnePageLaws.{uses_answered, uses_refused}
-use Rattle.paged_memory.proofs.ReservationLaws.{bare_itself}
+use Rattle.paged_memory.proofs.access_laws.OnePageLaws.{uses_answered, uses_refused}
+use Rattle.paged_memory.proofs.access_laws.ReservationLaws.{bare_itself}
 
 -- a memory whose parts stand one by one is the one that the access began with
 module _ {S : Type 0} (hart : ℕ) {parts old : PagedValue S} (same : parts ≡ old) where

@@ -11,8 +11,8 @@ use Rattle.sv32_table.specs.declared.fault.WalkFault.{WalkFault}
 use Rattle.sv32_table.specs.declared.fault.WalkFault.TheVariants.{PageFault}
 use Rattle.tlb_core.specs.declared.translation.Translation.{Translation}
 use Rattle.paged_memory.specs.Seen.{Seen, Standing, Resident, Leaving, Elsewhere, frame_seen}
-use Rattle.paged_memory.specs.Access.{is_resident}
-use Rattle.paged_memory.specs.Copies.{told_of_page}
+use Rattle.paged_memory.specs.access.Access.{is_resident}
+use Rattle.paged_memory.specs.cleaning.Copies.{told_of_page}
 use Rattle.paged_memory.specs.Soundness.{is_held}
 use Rattle.paged_memory.specs.Paged.{page_at, seen_at}
 

@@ -4,7 +4,7 @@ use Rattle.frame_pool.specs.FrameValue.{FrameValue}
 use Rattle.page_store.specs.Keeping.{Keeping, NoSlot, Saved, Unbacked, Cleaning, CopyOut}
 use Rattle.page_store.specs.PageValue.{PageValue, Place, page_state_of, frame_of, slot_of, is_out}
 use Rattle.paged_memory.specs.Paged.{page_at}
-use Rattle.paged_memory.specs.Stages.{is_resident_stage, is_saving_stage}
+use Rattle.paged_memory.specs.moves.Stages.{is_resident_stage, is_saving_stage}
 
 abbrev pub frame_passes : (ℕ → Bool) → Option FrameValue → Bool
 frame_passes test (Some frame) = test frame.number

@@ -7,7 +7,7 @@ use Rattle.page_store.specs.Reading.{some_from}
 use Rattle.page_store.specs.PageValue.{PageValue, Place, Fresh, Resident, Leaving, Saving, Away, Purged, content, Known}
 use Rattle.paged_memory.specs.Paged.{page_at}
 use Rattle.paged_memory.specs.Calls.{ChangesBy}
-use Rattle.paged_memory.specs.Filling.{StaysAbsent, FailsToLoad}
+use Rattle.paged_memory.specs.moves.Filling.{StaysAbsent, FailsToLoad}
 use Rattle.paged_memory.specs.declared.peeking.PeekFault.{PeekFault}
 use Rattle.paged_memory.specs.declared.peeking.PeekFault.TheVariants as fault
 

@@ -6,7 +6,7 @@ use Rattle.page_memory.specs.Pages.{Page}
 use Rattle.page_memory.specs.declared.rights.Rights.{Rights}
 use Rattle.page_store.specs.PageValue.{PageValue, Place, page_state_of}
 use Rattle.paged_memory.specs.Paged.{PagedValue, page_at}
-use Rattle.paged_memory.specs.Stages.{is_purged_stage}
+use Rattle.paged_memory.specs.moves.Stages.{is_purged_stage}
 use Rattle.paged_memory.specs.Whole.{rights_in, shown_in}
 
 -- the page of a number of a flat memory, if one is mapped

@@ -10,9 +10,9 @@ ghost use Rattle.paged_memory.specs.Paged.{Holds, seen_at};
 ghost use Rattle.paged_memory.specs.Seen.{is_dirty, is_used};
 ghost use Rattle.tlb_core.specs.Cache.{Hits, translation_of};
 ghost use Rattle.paged_memory.specs.declared.caches.Miss.{Miss};
-ghost use Rattle.paged_memory.specs.Access.{Reaches, RefusesAccess, Locates, HasPage, MarksUse, Serves};
-ghost use Rattle.paged_memory.specs.Access.{KeepsTranslations, MayWalk, cache_of, resident_frame};
-ghost use Rattle.paged_memory.specs.OnePage.{ReachesPage};
+ghost use Rattle.paged_memory.specs.access.Access.{Reaches, RefusesAccess, Locates, HasPage, MarksUse, Serves};
+ghost use Rattle.paged_memory.specs.access.Access.{KeepsTranslations, MayWalk, cache_of, resident_frame};
+ghost use Rattle.paged_memory.specs.access.OnePage.{ReachesPage};
 
 use crate::caches::{Caches, Miss};
 use page_memory::{Access, MemoryFault, PageMap, Rights, Width, page_of};

@@ -4,14 +4,15 @@ ghost use Rattle.std.specs.Prelude.{◌≡◌, ◌<◌, ◌^◌, ◌↔◌, true
 ghost use Rattle.std.specs.Prelude.{IsErr};
 ghost use Rattle.page_store.specs.PageValue.{page_state_of};
 ghost use Rattle.paged_memory.specs.Calls.{ChangesBy};
-ghost use Rattle.paged_memory.specs.Leaving.{ReturnsAs, is_leaving};
-ghost use Rattle.paged_memory.specs.Moving.{MapsAgain, SameCaches};
+ghost use Rattle.paged_memory.specs.moves.Leaving.{ReturnsAs, is_leaving};
+ghost use Rattle.paged_memory.specs.moves.Moving.{MapsAgain, SameCaches};
 ghost use Rattle.paged_memory.specs.Paged.{page_at, memory_of};
-ghost use Rattle.paged_memory.specs.Stages.{is_leaving_stage};
+ghost use Rattle.paged_memory.specs.moves.Stages.{is_leaving_stage};
 ghost use Rattle.paged_memory.specs.Whole.{stage_in};
 
 use crate::eviction::state_in;
 use crate::memory::PagedMemory;
+use crate::placing::place_there;
 use page_memory::{PageMap, Rights};
 use page_store::{NotLeaving, PageState, StoredPage};
 use std::sync::ledger::Ledger;
@@ -68,9 +69,7 @@ fn bring_back_page<L: Ledger, S: SwapSlot>(
         pages.new vpn }
     ensures frame { result.frame < 2 ^ 22 }
 {
-    let Some(place) = pages.place(vpn) else {
-        unreachable!()
-    };
+    let place = place_there(&*pages, vpn);
     let page = pages.at_mut(place);
     let changed = page.bring_back().unwrap_or(false);
     let Some(frame) = page.frame() else {

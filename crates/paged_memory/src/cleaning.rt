@@ -3,10 +3,10 @@
 ghost use Rattle.std.specs.Prelude.{◌≡◌, ◌≤◌, ◌<◌, ◌^◌, ℕ, true, false, IfErr, IfNone, IfSome};
 ghost use Rattle.std.specs.Prelude.{OnErr, OnOk};
 ghost use Rattle.paged_memory.specs.Calls.{ChangesBy};
-ghost use Rattle.paged_memory.specs.Cleaning.{BeginsCleaning, CopiesAt, CopiesPage, DoesNotClean};
-ghost use Rattle.paged_memory.specs.Cleaning.{EndsCleaningIn, RefusesClean, StartsClean};
-ghost use Rattle.paged_memory.specs.Cleaning.{is_changed_in, is_changed_resident, settles};
-ghost use Rattle.paged_memory.specs.Moving.{OnlyPages};
+ghost use Rattle.paged_memory.specs.cleaning.Cleaning.{BeginsCleaning, CopiesAt, CopiesPage, DoesNotClean};
+ghost use Rattle.paged_memory.specs.cleaning.Cleaning.{EndsCleaningIn, RefusesClean, StartsClean};
+ghost use Rattle.paged_memory.specs.cleaning.Cleaning.{is_changed_in, is_changed_resident, settles};
+ghost use Rattle.paged_memory.specs.moves.Moving.{OnlyPages};
 ghost use Rattle.paged_memory.specs.Paged.{memory_of, page_at};
 
 use crate::memory::PagedMemory;

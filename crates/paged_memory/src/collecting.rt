@@ -1,10 +1,10 @@
 //! Whether a page that is leaving can let its frame go: only when no cache holds a translation of it.
 
 ghost use Rattle.std.specs.Prelude.{◌≡◌, ◌<◌, ◌^◌, false};
-ghost use Rattle.paged_memory.specs.Leaving.{CollectsAt, lets_go};
+ghost use Rattle.paged_memory.specs.moves.Leaving.{CollectsAt, lets_go};
 ghost use Rattle.page_memory.specs.ReadOnly.{KeepsReadOnly};
 ghost use Rattle.paged_memory.specs.Paged.{page_at, memory_of};
-ghost use Rattle.paged_memory.specs.Moving.{LooksAt, OnlyPages};
+ghost use Rattle.paged_memory.specs.moves.Moving.{LooksAt, OnlyPages};
 
 use crate::memory::PagedMemory;
 use page_memory::PageMap;

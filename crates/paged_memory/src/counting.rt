@@ -4,7 +4,7 @@ ghost use Rattle.std.specs.Prelude.{◌≡◌, ◌≤◌, ◌<◌, ◌^◌, true
 ghost use Rattle.page_store.specs.PageValue.{frame_of};
 ghost use Rattle.paged_memory.specs.Counting.{frame_passes, is_resident_place, page_passes};
 ghost use Rattle.paged_memory.specs.Paged.{page_at};
-ghost use Rattle.paged_memory.specs.Stages.{has_frame_stage, is_resident_stage};
+ghost use Rattle.paged_memory.specs.moves.Stages.{has_frame_stage, is_resident_stage};
 ghost use Rattle.paged_memory.specs.Whole.{frames_among, residents_among};
 
 use crate::eviction::state_in;

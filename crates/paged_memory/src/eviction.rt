@@ -5,10 +5,11 @@ ghost use Rattle.std.specs.Prelude.{OnErr, IfErr};
 ghost use Rattle.page_store.specs.PageValue.{page_state_of};
 ghost use Rattle.paged_memory.specs.Paged.{page_at, memory_of};
 ghost use Rattle.paged_memory.specs.Calls.{ChangesBy, Leaves, RefusesLeave};
-ghost use Rattle.paged_memory.specs.Moving.{BeginsToLeave, DoesNotLeave, ForgetsUse};
+ghost use Rattle.paged_memory.specs.moves.Moving.{BeginsToLeave, DoesNotLeave, ForgetsUse};
 ghost use Rattle.paged_memory.specs.Whole.{accessed_in, stage_in};
 
 use crate::memory::PagedMemory;
+use crate::placing::place_there;
 use page_memory::PageMap;
 use page_store::{LeaveRefusal, PageState, StoredPage};
 use std::sync::ledger::Ledger;
@@ -100,8 +101,6 @@ fn leave<L: Ledger, S: SwapSlot>(pages: &mut PageMap<StoredPage<L, S>>, vpn: u32
         Some PageState.Resident }
     ensures { ChangesBy (Leaves changed) pages.old pages.new vpn }
 {
-    let Some(place) = pages.place(vpn) else {
-        unreachable!()
-    };
+    let place = place_there(&*pages, vpn);
     let _ = pages.at_mut(place).leave(changed);
 }

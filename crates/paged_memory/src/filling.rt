@@ -8,9 +8,9 @@ ghost use Rattle.page_memory.specs.ReadOnly.{KeepsReadOnly};
 ghost use Rattle.paged_memory.specs.Paged.{page_at, memory_of};
 ghost use Rattle.page_store.specs.PageValue.{content, Backed, kept_digest};
 ghost use Rattle.page_store.specs.Moves.{IfResident};
-ghost use Rattle.paged_memory.specs.Filling.{IsAbsent, IsUnchanged, dropped, fault_of, BroughtIn};
-ghost use Rattle.paged_memory.specs.Filling.{RefusesAbsent};
-ghost use Rattle.paged_memory.specs.Moving.{ComesIn, RefusesIn, SameCaches, SameEntries};
+ghost use Rattle.paged_memory.specs.moves.Filling.{IsAbsent, IsUnchanged, dropped, fault_of, BroughtIn};
+ghost use Rattle.paged_memory.specs.moves.Filling.{RefusesAbsent};
+ghost use Rattle.paged_memory.specs.moves.Moving.{ComesIn, RefusesIn, SameCaches, SameEntries};
 
 use crate::eviction::state_in;
 use crate::memory::PagedMemory;

@@ -6,12 +6,13 @@ ghost use Rattle.sv32_table.specs.Entry.{blank};
 ghost use Rattle.sv32_table.specs.EntryAt.{ChangesEntry, SameTables};
 ghost use Rattle.paged_memory.specs.Paged.{Holds, page_at};
 ghost use Rattle.paged_memory.specs.Calls.{ChangesBy};
-ghost use Rattle.paged_memory.specs.GivingBack.{GivesBack, GivesNothing};
-ghost use Rattle.paged_memory.specs.Moving.{GivesIn, HasNothingBelow, LiesBehindIn, SameCaches};
-ghost use Rattle.paged_memory.specs.Moving.{SameTablesIn};
+ghost use Rattle.paged_memory.specs.moves.GivingBack.{GivesBack, GivesNothing};
+ghost use Rattle.paged_memory.specs.moves.Moving.{GivesIn, HasNothingBelow, LiesBehindIn, SameCaches};
+ghost use Rattle.paged_memory.specs.moves.Moving.{SameTablesIn};
 
 use crate::caches::Caches;
 use crate::memory::PagedMemory;
+use crate::placing::place_there;
 use frame_pool::Frame;
 use page_memory::PageMap;
 use page_store::StoredPage;
@@ -23,7 +24,7 @@ impl<L: Ledger, S: SwapSlot> PagedMemory<L, S> {
     /// Takes the frame and the slot of the first page, by number, that has either, is not being saved and has no copy out,
     /// once no hart has a translation any more. The page is unmapped, and given up for good. No page before `from` has anything; with what
     /// the page had comes the number from which on others may have something still. `None` where there is no such page.
-    #[tactic(auto, using(crate::proofs::GivingBackLaws::nothing_as_far))]
+    #[tactic(auto, using(crate::proofs::move_laws::GivingBackLaws::nothing_as_far))]
     pub fn take_from(&mut self, from: u32) -> Option<((Option<Frame<L>>, Option<S>), u32)>
         requires quiet { All (λ cache. cache ≡ []) self.old.caches }
         requires before { HasNothingBelow from self.old }
@@ -109,9 +110,7 @@ fn take<L: Ledger, S: SwapSlot>(
     requires something { ¬ GivesNothing (page_at pages.old vpn) }
     ensures { ChangesBy (GivesBack result) pages.old pages.new vpn }
 {
-    let Some(place) = pages.place(vpn) else {
-        unreachable!()
-    };
+    let place = place_there(&*pages, vpn);
     match pages.at_mut(place).give_back() {
         Some(given) => given,
         None => unreachable!(),

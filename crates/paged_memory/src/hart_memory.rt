@@ -7,10 +7,10 @@ ghost use Rattle.page_memory.specs.Words.{page_number, page_offset};
 ghost use Rattle.page_memory.specs.declared.words.Access.{Access};
 ghost use Rattle.rv_exec.specs.Amo.{amo_result};
 ghost use Rattle.rv_exec.specs.Answers.{with_answer};
-ghost use Rattle.paged_memory.specs.Accesses.{AnswersAccess, Reads, Reserves, Writes};
+ghost use Rattle.paged_memory.specs.access.Accesses.{AnswersAccess, Reads, Reserves, Writes};
 ghost use Rattle.paged_memory.specs.Paged.{memory_of};
-ghost use Rattle.paged_memory.specs.Access.{cache_of};
-ghost use Rattle.paged_memory.specs.HartMemory.{InTurn, KeepsAccess};
+ghost use Rattle.paged_memory.specs.access.Access.{cache_of};
+ghost use Rattle.paged_memory.specs.access.HartMemory.{InTurn, KeepsAccess};
 
 use crate::memory::PagedMemory;
 use crate::reading::{ReadyBytes, fetch_anew, load_anew, load_to_replace, read, read_ready};
@@ -67,12 +67,12 @@ impl<'a, L: Ledger, S: SwapSlot, O: Opening> HartMemory<'a, L, S, O> {
 impl<'a, L: Ledger, S: SwapSlot, O: Opening> Bus for HartMemory<'a, L, S, O> {
     ghost use Rattle.std.specs.Prelude.{ℕ};
     ghost use Rattle.std.proofs.Common.{refl, ◌∙◌, subst};
-    ghost use Rattle.paged_memory.specs.Access.{HasPage, LacksPage};
-    ghost use Rattle.paged_memory.specs.HartMemory.{MarksSince, MarksWithin};
-    ghost use Rattle.paged_memory.specs.HartMemoryLaws.{access_itself, access_on, lacked, had};
-    ghost use Rattle.paged_memory.specs.HartMemoryLaws.{marked};
-    ghost use Rattle.paged_memory.specs.Missing.{MissesIn, TakesIn};
-    ghost use Rattle.paged_memory.specs.MissingLaws.{takes_kept};
+    ghost use Rattle.paged_memory.specs.access.Access.{HasPage, LacksPage};
+    ghost use Rattle.paged_memory.specs.access.HartMemory.{MarksSince, MarksWithin};
+    ghost use Rattle.paged_memory.specs.access.HartMemoryLaws.{access_itself, access_on, lacked, had};
+    ghost use Rattle.paged_memory.specs.access.HartMemoryLaws.{marked};
+    ghost use Rattle.paged_memory.specs.access.Missing.{MissesIn, TakesIn};
+    ghost use Rattle.paged_memory.specs.access.MissingLaws.{takes_kept};
 
     ghost memory = { λ m. memory_of S.content m.memory.now };
 

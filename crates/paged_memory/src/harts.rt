@@ -2,7 +2,7 @@
 
 ghost use Rattle.std.specs.Prelude.{◌≡◌, ◌<◌};
 ghost use Rattle.paged_memory.specs.Fresh.{AddsHart};
-ghost use Rattle.paged_memory.specs.Notices.{cleared, dropped, emptied};
+ghost use Rattle.paged_memory.specs.access.Notices.{cleared, dropped, emptied};
 ghost use Rattle.paged_memory.specs.Whole.{harts_in};
 
 use crate::memory::PagedMemory;

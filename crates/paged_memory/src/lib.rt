@@ -16,6 +16,7 @@ mod hart_memory;
 mod harts;
 mod memory;
 mod peeking;
+mod placing;
 mod reading;
 mod ready;
 mod reply;

@@ -44,7 +44,7 @@ impl<L: Ledger, S: SwapSlot> Model for PagedMemory<L, S> {
 
 impl<L: Ledger, S: SwapSlot> PagedMemory<L, S> {
     /// The memory of a process of this number, with no page and no hart.
-    #[tactic(auto, using(crate::proofs::CallLaws::holds_new))]
+    #[tactic(auto, using(crate::proofs::access_laws::CallLaws::holds_new))]
     pub fn new(alloc: Global, process: u32) -> Result<Self, AllocError>
         ensures { IfOk result (λ memory. MapsFresh process [] memory) }
     {

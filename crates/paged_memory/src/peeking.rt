@@ -2,7 +2,7 @@
 
 ghost use Rattle.std.specs.Prelude.{◌≡◌, ◌+◌, ◌<◌, ◌≤◌, ◌^◌, Some, IfErr, OnErr, OnOk, length};
 ghost use Rattle.page_memory.specs.Words.{page_offset};
-ghost use Rattle.paged_memory.specs.Moving.{DoesNotShow, LeavesLookedAt, OnlyPages, ShowsIn};
+ghost use Rattle.paged_memory.specs.moves.Moving.{DoesNotShow, LeavesLookedAt, OnlyPages, ShowsIn};
 ghost use Rattle.page_memory.specs.ReadOnly.{KeepsReadOnly};
 ghost use Rattle.paged_memory.specs.Paged.{page_at, memory_of};
 ghost use Rattle.paged_memory.specs.Peeking.{bytes_of, ShowsBytes, LeavesPage, RefusesPeek};

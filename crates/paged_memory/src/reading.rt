@@ -9,10 +9,10 @@ ghost use Rattle.page_memory.specs.declared.words.Access.{Access};
 ghost use Rattle.page_store.specs.PageValue.{content, writable};
 ghost use Rattle.rv_exec.specs.Answers.{BusRefuses};
 ghost use Rattle.paged_memory.specs.Paged.{Holds, flat_pages};
-ghost use Rattle.paged_memory.specs.Replies.{loaded_by};
-ghost use Rattle.paged_memory.specs.Access.{HasPage, LacksPage, MarksUse, Serves, TakesStores, UsesBytes};
-ghost use Rattle.paged_memory.specs.Access.{cache_of};
-ghost use Rattle.paged_memory.specs.OnePage.{AnswersUse, UsesPage};
+ghost use Rattle.paged_memory.specs.access.Replies.{loaded_by};
+ghost use Rattle.paged_memory.specs.access.Access.{HasPage, LacksPage, MarksUse, Serves, TakesStores, UsesBytes};
+ghost use Rattle.paged_memory.specs.access.Access.{cache_of};
+ghost use Rattle.paged_memory.specs.access.OnePage.{AnswersUse, UsesPage};
 
 use crate::access::{at_hand, reach};
 use crate::caches::Caches;
@@ -84,7 +84,7 @@ pub(crate) fn read_ready<'a, L: Ledger, S: SwapSlot>(
 
 /// The bytes of a page that a hart reads.
 #[inline]
-#[tactic(auto, using(crate::proofs::HitLaws::reaches_takes))]
+#[tactic(auto, using(crate::proofs::access_laws::HitLaws::reaches_takes))]
 pub(crate) fn read<'a, L: Ledger, S: SwapSlot>(
     pages: &'a PageMap<StoredPage<L, S>>,
     tables: &mut PageTables,

@@ -5,7 +5,7 @@ ghost use Rattle.page_memory.specs.declared.words.Access.{Access};
 ghost use Rattle.page_memory.specs.Memory.{loaded, stored};
 ghost use Rattle.page_memory.specs.Words.{page_number};
 ghost use Rattle.paged_memory.specs.Paged.{memory_of};
-ghost use Rattle.paged_memory.specs.Ready.{ServesIn, KeepsReady};
+ghost use Rattle.paged_memory.specs.access.Ready.{ServesIn, KeepsReady};
 ghost use Rattle.paged_memory.specs.Whole.{harts_in};
 
 use crate::access::is_fetched_at_once;
@@ -18,7 +18,7 @@ use std::sync::ledger::Ledger;
 use swap_slots::SwapSlot;
 
 impl<L: Ledger, S: SwapSlot> ReadyMemory for PagedMemory<L, S> {
-    ghost use Rattle.paged_memory.specs.ReadyLaws.{ready_itself, admits_still, serves_still};
+    ghost use Rattle.paged_memory.specs.access.ReadyLaws.{ready_itself, admits_still, serves_still};
 
     ghost memory = { λ m. memory_of S.content m };
 

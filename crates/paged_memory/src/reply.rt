@@ -4,7 +4,7 @@
 //! each instruction, since the calls stand in it.
 
 ghost use Rattle.std.specs.Prelude.{◌≡◌};
-ghost use Rattle.paged_memory.specs.Replies.{loaded_by};
+ghost use Rattle.paged_memory.specs.access.Replies.{loaded_by};
 
 use page_memory::MemoryFault;
 use rv_exec::BusError;

@@ -1,7 +1,7 @@
 //! The end of a save in a process's memory: the frame is freed, or the page is leaving again.
 
 ghost use Rattle.std.specs.Prelude.{◌≡◌, IfOk, IfErr};
-ghost use Rattle.paged_memory.specs.Moving.{IsNotSaved, OnlyPages, SavedAway};
+ghost use Rattle.paged_memory.specs.moves.Moving.{IsNotSaved, OnlyPages, SavedAway};
 ghost use Rattle.page_memory.specs.ReadOnly.{KeepsReadOnly};
 ghost use Rattle.paged_memory.specs.Paged.{memory_of};
 

@@ -3,7 +3,7 @@
 ghost use Rattle.std.specs.Prelude.{◌≡◌, ◌<◌, ◌^◌, option_map, false, if◌then◌else◌};
 ghost use Rattle.page_store.specs.Cleaning.{is_being_cleaned};
 ghost use Rattle.page_store.specs.PageValue.{frame_of};
-ghost use Rattle.paged_memory.specs.PageStatus.{status_in};
+ghost use Rattle.paged_memory.specs.moves.PageStatus.{status_in};
 
 use crate::memory::PagedMemory;
 use page_store::{PageState, StoredPage};

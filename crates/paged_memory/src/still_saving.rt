@@ -4,7 +4,7 @@ ghost use Rattle.std.specs.Prelude.{◌≡◌, ◌<◌, ◌^◌};
 ghost use Rattle.std.specs.Bool.{OnTrue, OnFalse};
 ghost use Rattle.page_store.specs.PageValue.{is_out};
 ghost use Rattle.paged_memory.specs.Counting.{page_passes};
-ghost use Rattle.paged_memory.specs.Moving.{SavesNone, SavesSome};
+ghost use Rattle.paged_memory.specs.moves.Moving.{SavesNone, SavesSome};
 ghost use Rattle.paged_memory.specs.Paged.{page_at};
 
 use crate::memory::PagedMemory;

@@ -2,8 +2,8 @@
 
 ghost use Rattle.std.specs.Prelude.{◌≡◌, ◌≤◌, ◌%◌, option_copied};
 ghost use Rattle.paged_memory.specs.Whole.{harts_in};
-ghost use Rattle.paged_memory.specs.Translating.{changed_in, framed_word, framed_word_in};
-ghost use Rattle.paged_memory.specs.Translating.{tables_in, translations_in};
+ghost use Rattle.paged_memory.specs.access.Translating.{changed_in, framed_word, framed_word_in};
+ghost use Rattle.paged_memory.specs.access.Translating.{tables_in, translations_in};
 
 use crate::memory::PagedMemory;
 use page_memory::{PAGE_COUNT, Width, number, page_of};

@@ -2,7 +2,7 @@
 
 ghost use Rattle.std.specs.Prelude.{◌≡◌, ◌+◌, ◌≤◌, ◌<◌, ◌%◌, length, is_some, Some, Ok, true};
 ghost use Rattle.std.specs.Prelude.{false};
-ghost use Rattle.paged_memory.specs.Access.{HasPage, KeepsBare, MarksUse, TakesStores, cache_of};
+ghost use Rattle.paged_memory.specs.access.Access.{HasPage, KeepsBare, MarksUse, TakesStores, cache_of};
 ghost use Rattle.std.specs.Prelude.{ℕ, drop};
 ghost use Rattle.page_memory.specs.Words.{page_number, page_offset, bytes_in};
 ghost use Rattle.page_memory.specs.Pages.{overwritten, stored, replaced, copied_in};
@@ -13,8 +13,8 @@ ghost use Rattle.rv_exec.specs.Amo.{amo_result};
 ghost use Rattle.rv_exec.specs.Answers.{with_answer};
 ghost use Rattle.page_memory.specs.declared.words.Access.{Access};
 ghost use Rattle.paged_memory.specs.Paged.{Holds, flat_pages};
-ghost use Rattle.paged_memory.specs.Replies.{stored_by};
-ghost use Rattle.paged_memory.specs.OnePage.{AnswersUse, WritesPage};
+ghost use Rattle.paged_memory.specs.access.Replies.{stored_by};
+ghost use Rattle.paged_memory.specs.access.OnePage.{AnswersUse, WritesPage};
 
 use crate::access::{at_hand, reach};
 use crate::caches::Caches;
@@ -90,7 +90,7 @@ fn replace_word_in<L: Ledger, S: SwapSlot>(
 
 /// Stores the low bytes of a word.
 #[inline]
-#[tactic(auto, using(crate::proofs::HitLaws::reaches_takes))]
+#[tactic(auto, using(crate::proofs::access_laws::HitLaws::reaches_takes))]
 pub(crate) fn store<L: Ledger, S: SwapSlot>(
     pages: &mut PageMap<StoredPage<L, S>>,
     tables: &mut PageTables,
@@ -124,7 +124,7 @@ pub(crate) fn store<L: Ledger, S: SwapSlot>(
 
 /// Stores the low bytes of a word in a page that is ready, and answers whether it was.
 #[inline(always)]
-#[tactic(auto, using(crate::proofs::HitLaws::reaches_takes))]
+#[tactic(auto, using(crate::proofs::access_laws::HitLaws::reaches_takes))]
 pub(crate) fn store_ready<L: Ledger, S: SwapSlot>(
     pages: &mut PageMap<StoredPage<L, S>>,
     tables: &PageTables,
@@ -159,7 +159,7 @@ pub(crate) fn store_ready<L: Ledger, S: SwapSlot>(
 /// The same in a page that is not ready, which it makes ready.
 #[cold]
 #[inline(never)]
-#[tactic(auto, using(crate::proofs::HitLaws::reaches_takes))]
+#[tactic(auto, using(crate::proofs::access_laws::HitLaws::reaches_takes))]
 fn store_anew<L: Ledger, S: SwapSlot>(
     pages: &mut PageMap<StoredPage<L, S>>,
     tables: &mut PageTables,
@@ -195,7 +195,7 @@ fn store_anew<L: Ledger, S: SwapSlot>(
 }
 
 /// Copies a slice into one page.
-#[tactic(auto, using(crate::proofs::HitLaws::reaches_takes))]
+#[tactic(auto, using(crate::proofs::access_laws::HitLaws::reaches_takes))]
 pub(crate) fn copy_in<L: Ledger, S: SwapSlot>(
     pages: &mut PageMap<StoredPage<L, S>>,
     tables: &mut PageTables,
@@ -223,7 +223,7 @@ pub(crate) fn copy_in<L: Ledger, S: SwapSlot>(
 }
 
 /// Replaces the word at an address by an operation's result, in one step, and answers the old word.
-#[tactic(auto, using(crate::proofs::HitLaws::reaches_takes))]
+#[tactic(auto, using(crate::proofs::access_laws::HitLaws::reaches_takes))]
 pub(crate) fn amo<L: Ledger, S: SwapSlot>(
     pages: &mut PageMap<StoredPage<L, S>>,
     tables: &mut PageTables,
@@ -264,7 +264,7 @@ pub(crate) fn amo<L: Ledger, S: SwapSlot>(
 /// The same in a page that is not ready, which it makes ready.
 #[cold]
 #[inline(never)]
-#[tactic(auto, using(crate::proofs::HitLaws::reaches_takes))]
+#[tactic(auto, using(crate::proofs::access_laws::HitLaws::reaches_takes))]
 fn amo_anew<L: Ledger, S: SwapSlot>(
     pages: &mut PageMap<StoredPage<L, S>>,
     tables: &mut PageTables,

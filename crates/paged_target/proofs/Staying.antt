@@ -33,10 +33,10 @@ use Rattle.machine_sides.specs.Sweeping.{HeedsVerdict, ReadsBit}
 use Rattle.page_store.specs.JobValue.{SavedValue}
 use Rattle.page_store.specs.declared.state.PageState.TheVariants.{Purged}
 use Rattle.paged_memory.proofs.IntactLaws.{again_none, backing_none, comes_none, copied_none, emptied_none, forgets_none, fresh_none, leaves_none, mapped_none, noticed_none, refuses_none, saved_none, used_none}
-use Rattle.paged_memory.specs.Notices.{noticed}
+use Rattle.paged_memory.specs.access.Notices.{noticed}
 use Rattle.paged_memory.specs.Paged.{PagedValue}
 use Rattle.paged_memory.specs.Whole.{stage_in}
-use Rattle.paged_memory.specs.Using.{LacksIn}
+use Rattle.paged_memory.specs.access.Using.{LacksIn}
 use Rattle.serial_driver.specs.Serving.{BringsIn, Serves, ServesHart}
 use Rattle.serial_driver.specs.declared.serving.ServedStep.{ServedStep}
 use Rattle.serial_driver.specs.declared.serving.ServedStep.TheVariants as served

@@ -56,7 +56,6 @@ fn read_page<L: Ledger, C: Clock>(
         Some(Err(PeekFault::NotMapped)) => bytes.fill(None),
         // No page was given back, and a slot in memory does not fail.
         Some(Err(PeekFault::Purged)) => unreachable!(),
-        Some(Err(PeekFault::Device)) => unreachable!(),
-        None => unreachable!(),
+        Some(Err(PeekFault::Device)) | None => unreachable!(),
     }
 }

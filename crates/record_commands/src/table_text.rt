@@ -3,7 +3,6 @@
 ghost use Rattle.std.specs.Prelude.{◌≡◌, OnOk, take};
 ghost use Rattle.std.specs.List.{flat_map};
 ghost use Rattle.std.specs.Io.KnownBytes.{Appends};
-ghost use Rattle.hex.specs.Hex.{encode_lower};
 ghost use Rattle.record_commands.specs.Tables.{
   head_text,
   head_values,
@@ -18,8 +17,8 @@ ghost use Rattle.record_commands.specs.Tables.{
 };
 
 use crate::row::Row;
-use hex::encode_to_slice;
 use process_text::Ending;
+use run_records::digits_of;
 use std::io;
 use std::io::Write;
 
@@ -135,15 +134,4 @@ fn write_last_value<O: Write>(row: &Row, out: &mut O) -> io::Result<()>
 {
     let ending = Ending(row.end);
     writeln!(out, ",{ending}")
-}
-
-/// The hexadecimal digits of a digest, in lower case.
-fn digits_of(digest: &[u8; 32]) -> [u8; 64]
-    ensures { result ≡ encode_lower digest.now }
-{
-    let mut digits = [0u8; 64];
-    if encode_to_slice(digest.as_slice(), &mut digits).is_err() {
-        unreachable!();
-    }
-    digits
 }

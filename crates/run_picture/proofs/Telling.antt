@@ -1,17 +1,8 @@
 -- What is told of each of a list, one more at a time.
-use Rattle.std.proofs.Common.{◌≡◌, ◌<◌, ℕ, zero, suc, ◌+◌, List, [], ◌∷◌, ◌++◌, length, take, get_or, map, Some, slice_get, option_map, refl, sym, ap, ◌∙◌, add-one}
+use Rattle.std.proofs.Common.{◌≡◌, ◌<◌, ℕ, ◌+◌, List, [], ◌∷◌, ◌++◌, length, take, get_or, map, refl, sym, ap, ◌∙◌}
 use Rattle.std.proofs.lemmas.List.{take_more}
 
 module _ {A B : Type 0} (f : A → B) where
-  -- one more of a list, under a function
-  pub map_more : (xs : List A) (i : ℕ) (y : B) → Some y ≡ option_map f (slice_get xs i) → map f (take (i + 1) xs) ≡ map f (take i xs) ++ y ∷ []
-  map_more xs i y h = rw add-one (from xs i h)
-    where
-      from : (xs : List A) (i : ℕ) → Some y ≡ option_map f (slice_get xs i) → map f (take (suc i) xs) ≡ map f (take i xs) ++ y ∷ []
-      from [] i h = cc
-      from (z ∷ zs) zero h = let e : f z ≡ y = cc in ap (λ b. b ∷ []) e
-      from (z ∷ zs) (suc i) h = ap (λ l. f z ∷ l) (from zs i h)
-
   pub map_push : (xs : List A) (x : A) → map f (xs ++ x ∷ []) ≡ map f xs ++ f x ∷ []
   map_push [] x = refl
   map_push (z ∷ zs) x = ap (λ l. f z ∷ l) (map_push zs x)

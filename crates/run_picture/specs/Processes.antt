@@ -4,7 +4,7 @@ use Rattle.std.specs.List.{enumerate_from}
 use Rattle.flat_machine.specs.declared.end.End.{End}
 use Rattle.space_core.specs.StandsFor.{SpaceValue}
 use Rattle.paged_memory.specs.Paged.{PagedValue}
-use Rattle.paged_memory.specs.Translating.{framed_word_in, tables_in, translations_in}
+use Rattle.paged_memory.specs.access.Translating.{framed_word_in, tables_in, translations_in}
 use Rattle.rv_exec.specs.Registers.{Registers}
 use Rattle.tlb_core.specs.declared.translation.Translation.{Translation}
 use Rattle.run_picture.specs.declared.shown_hart.ShownHart.{ShownHart}
@@ -43,16 +43,13 @@ module _ {S : Type 0} where
   cached_by memory number = unwrap_or (translations_in memory number) []
 
   -- a hart by its number and its registers
-  abbrev pub hart_in : PagedValue S → Bool → ℕ × Registers → HartSeen
-  hart_in memory live (number, registers) = record {
-    registers = registers;
-    live = live;
-    word = framed_word_in memory registers.pc;
-    cached = cached_by memory number;
-  }
-
   abbrev pub hart_by : SpaceValue S → ℕ × Registers → HartSeen
-  hart_by process hart = hart_in process.memory (slice_index_or process.running.environment.live hart.0 false) hart
+  hart_by process (number, registers) = record {
+    registers = registers;
+    live = slice_index_or process.running.environment.live number false;
+    word = framed_word_in process.memory registers.pc;
+    cached = cached_by process.memory number;
+  }
 
 -- ---- a process
 

@@ -37,6 +37,6 @@ pub fn film<L: Ledger, S: SwapSlot, C: Clock>(
         frames: core.size(),
         first,
         scenes,
-        outputs: outputs_of(alloc, core)?,
+        outputs: outputs_of(alloc, core.spaces())?,
     })
 }

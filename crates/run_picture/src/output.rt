@@ -1,10 +1,9 @@
 //! What processes have written.
 
-ghost use Rattle.std.specs.Prelude.{◌≡◌, ◌<◌, IfOk, Some, length, map, option_map, slice_get};
+ghost use Rattle.std.specs.Prelude.{◌≡◌, IfOk, map};
 ghost use Rattle.run_picture.specs.Pictures.{bytes_in, output_by, written_by};
 
-use clock_policy::Clock;
-use machine_core::Core;
+use space_core::Space;
 use std::alloc::{AllocError, Global};
 use std::sync::ledger::Ledger;
 use swap_slots::SwapSlot;
@@ -16,57 +15,40 @@ pub struct Output {
 }
 
 /// What each process has written.
-pub(crate) fn outputs_of<L: Ledger, S: SwapSlot, C: Clock>(
+pub(crate) fn outputs_of<L: Ledger, S: SwapSlot>(
     alloc: Global,
-    core: &Core<L, S, C>,
+    processes: &[Space<L, S>],
 ) -> Result<Vec<Output>, AllocError>
-    ensures { IfOk result (λ outputs. map bytes_in outputs.items ≡
-        map output_by core.now.processes) }
+    ensures { IfOk result (λ outputs. map bytes_in outputs.items ≡ map output_by processes.now) }
 {
     let mut outputs = Vec::new(alloc);
-    'processes: for process in 0..core.processes() as u32 {
-        let output = output_at(alloc, core, process)?;
+    'processes: for process in processes {
+        let output = output_of(alloc, process)?;
         outputs.push(output)?;
     }
     Ok(outputs)
 }
 
-fn output_at<L: Ledger, S: SwapSlot, C: Clock>(
+fn output_of<L: Ledger, S: SwapSlot>(
     alloc: Global,
-    core: &Core<L, S, C>,
-    process: u32,
+    process: &Space<L, S>,
 ) -> Result<Output, AllocError>
-    requires { process < length core.now.processes }
-    ensures { IfOk result (λ output. Some (bytes_in output) ≡ option_map output_by
-        (slice_get core.now.processes process)) }
+    ensures { IfOk result (λ output. bytes_in output ≡ output_by process.now) }
 {
-    let Some(output) = core.output(process) else {
-        unreachable!()
-    };
-    let bytes = Vec::from_slice(alloc, output)?;
+    let bytes = Vec::from_slice(alloc, process.output())?;
     Ok(Output { bytes })
 }
 
 /// How many bytes each process has written.
-pub(crate) fn lengths<L: Ledger, S: SwapSlot, C: Clock>(
+pub(crate) fn lengths<L: Ledger, S: SwapSlot>(
     alloc: Global,
-    core: &Core<L, S, C>,
+    processes: &[Space<L, S>],
 ) -> Result<Vec<usize>, AllocError>
-    ensures { IfOk result (λ lengths. lengths.items ≡ map written_by core.now.processes) }
+    ensures { IfOk result (λ lengths. lengths.items ≡ map written_by processes.now) }
 {
     let mut lengths = Vec::new(alloc);
-    'processes: for process in 0..core.processes() as u32 {
-        lengths.push(length_at(core, process))?;
+    'processes: for process in processes {
+        lengths.push(process.output().len())?;
     }
     Ok(lengths)
-}
-
-fn length_at<L: Ledger, S: SwapSlot, C: Clock>(core: &Core<L, S, C>, process: u32) -> usize
-    requires { process < length core.now.processes }
-    ensures { Some result ≡ option_map written_by (slice_get core.now.processes process) }
-{
-    match core.output(process) {
-        Some(output) => output.len(),
-        None => unreachable!(),
-    }
 }

@@ -39,10 +39,10 @@ pub fn picture_of<L: Ledger, S: SwapSlot, C: Clock>(
     core.copy_entries(&mut entries)?;
     Ok(Picture {
         pages: shown_pages(alloc, core, pages)?,
-        processes: shown_processes(alloc, core)?,
+        processes: shown_processes(alloc, core.spaces())?,
         entries,
         hands: core.hands(),
         counts: core.counts(),
-        written: lengths(alloc, core)?,
+        written: lengths(alloc, core.spaces())?,
     })
 }

@@ -93,7 +93,7 @@ fn end<'a, L: Ledger, S: SwapSlot, C: Clock, W: Write>(
 ) -> Result<(), Fault<'a>> {
     let picture = picture_of(alloc, core, shown.named.keys())?;
     write_still(&picture, out)?;
-    let outputs = outputs_of(alloc, core)?;
+    let outputs = outputs_of(alloc, core.spaces())?;
     write_outputs(outputs.as_slice(), out)?;
     Ok(())
 }

@@ -1,12 +1,11 @@
 //! A hart as a picture shows it.
 
-ghost use Rattle.std.specs.Prelude.{◌≡◌, ◌<◌, IfOk, Some, length, map, option_map, slice_get};
-ghost use Rattle.run_picture.specs.Processes.{cached_by, hart_in, hart_seen, harts_by};
+ghost use Rattle.std.specs.Prelude.{◌≡◌, IfOk, map};
+ghost use Rattle.run_picture.specs.Processes.{cached_by, hart_by, hart_seen, harts_by};
 
-use clock_policy::Clock;
-use machine_core::Core;
 use paged_memory::PagedMemory;
 use rv_exec::Regs;
+use space_core::Space;
 use std::alloc::{AllocError, Global};
 use std::sync::ledger::Ledger;
 use swap_slots::SwapSlot;
@@ -25,26 +24,20 @@ pub struct ShownHart {
 }
 
 /// The harts of a process.
-pub(crate) fn shown_harts<L: Ledger, S: SwapSlot, C: Clock>(
+pub(crate) fn shown_harts<L: Ledger, S: SwapSlot>(
     alloc: Global,
-    core: &Core<L, S, C>,
-    process: u32,
+    process: &Space<L, S>,
 ) -> Result<Vec<ShownHart>, AllocError>
-    requires { process < length core.now.processes }
-    ensures { IfOk result (λ shown. Some (map hart_seen shown.items) ≡ option_map harts_by
-        (slice_get core.now.processes process)) }
+    ensures { IfOk result (λ shown. map hart_seen shown.items ≡ harts_by process.now) }
 {
-    let Some(memory) = core.memory(process) else {
-        unreachable!()
-    };
-    core.coherent();
+    process.coherent();
+    let memory = process.memory();
     let mut shown = Vec::new(alloc);
     'harts: for number in 0..memory.cached_harts() {
-        let Some(regs) = core.regs(process, number) else {
+        let Some(regs) = process.regs(number) else {
             unreachable!()
         };
-        let live = core.is_live(process, number);
-        let hart = shown_hart(alloc, memory, number, live, regs)?;
+        let hart = shown_hart(alloc, process, number, regs)?;
         shown.push(hart)?;
     }
     Ok(shown)
@@ -52,16 +45,16 @@ pub(crate) fn shown_harts<L: Ledger, S: SwapSlot, C: Clock>(
 
 fn shown_hart<L: Ledger, S: SwapSlot>(
     alloc: Global,
-    memory: &PagedMemory<L, S>,
+    process: &Space<L, S>,
     number: u32,
-    live: bool,
     regs: &Regs,
 ) -> Result<ShownHart, AllocError>
-    ensures { IfOk result (λ hart. hart_seen hart ≡ hart_in memory.now live (number, regs.now)) }
+    ensures { IfOk result (λ hart. hart_seen hart ≡ hart_by process.now (number, regs.now)) }
 {
+    let memory = process.memory();
     Ok(ShownHart {
         regs: *regs,
-        live,
+        live: process.is_live(number),
         word: memory.framed_word(regs.pc()),
         cached: cached_by(alloc, memory, number)?,
     })

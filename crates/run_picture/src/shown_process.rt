@@ -1,13 +1,12 @@
 //! A process as a picture shows it.
 
-ghost use Rattle.std.specs.Prelude.{◌≡◌, ◌<◌, IfOk, Some, length, map, option_map, slice_get};
+ghost use Rattle.std.specs.Prelude.{◌≡◌, IfOk, map};
 ghost use Rattle.run_picture.specs.Processes.{process_by, process_seen};
 
 use crate::shown_hart::{ShownHart, shown_harts};
 use crate::shown_table::{ShownTable, shown_tables};
-use clock_policy::Clock;
 use flat_machine::End;
-use machine_core::Core;
+use space_core::Space;
 use std::alloc::{AllocError, Global};
 use std::sync::ledger::Ledger;
 use swap_slots::SwapSlot;
@@ -24,39 +23,29 @@ pub struct ShownProcess {
 }
 
 /// The processes of a machine.
-pub(crate) fn shown_processes<L: Ledger, S: SwapSlot, C: Clock>(
+pub(crate) fn shown_processes<L: Ledger, S: SwapSlot>(
     alloc: Global,
-    core: &Core<L, S, C>,
+    processes: &[Space<L, S>],
 ) -> Result<Vec<ShownProcess>, AllocError>
-    ensures { IfOk result (λ shown. map process_seen shown.items ≡
-        map process_by core.now.processes) }
+    ensures { IfOk result (λ shown. map process_seen shown.items ≡ map process_by processes.now) }
 {
     let mut shown = Vec::new(alloc);
-    'processes: for number in 0..core.processes() as u32 {
-        let process = shown_process(alloc, core, number)?;
-        shown.push(process)?;
+    'processes: for process in processes {
+        let seen = shown_process(alloc, process)?;
+        shown.push(seen)?;
     }
     Ok(shown)
 }
 
-fn shown_process<L: Ledger, S: SwapSlot, C: Clock>(
+fn shown_process<L: Ledger, S: SwapSlot>(
     alloc: Global,
-    core: &Core<L, S, C>,
-    number: u32,
+    process: &Space<L, S>,
 ) -> Result<ShownProcess, AllocError>
-    requires { number < length core.now.processes }
-    ensures { IfOk result (λ shown. Some (process_seen shown) ≡ option_map process_by
-        (slice_get core.now.processes number)) }
+    ensures { IfOk result (λ shown. process_seen shown ≡ process_by process.now) }
 {
-    let Some(memory) = core.memory(number) else {
-        unreachable!()
-    };
-    let Some(end) = core.end(number) else {
-        unreachable!()
-    };
     Ok(ShownProcess {
-        end,
-        harts: shown_harts(alloc, core, number)?,
-        page_tables: shown_tables(alloc, memory.tables())?,
+        end: process.end(),
+        harts: shown_harts(alloc, process)?,
+        page_tables: shown_tables(alloc, process.memory().tables())?,
     })
 }

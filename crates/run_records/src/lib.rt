@@ -17,4 +17,4 @@ pub use laws::{read_records_are_written, written_records_are_read};
 pub use reading::read_record;
 pub use record::{Closing, Record};
 pub use replaying::{ReplayFault, replay};
-pub use writing::write_record;
+pub use writing::{digits_of, write_record};

@@ -103,7 +103,7 @@ fn write_fingerprint<W: Write>(name: &str, print: &Fingerprint, out: &mut W) -> 
 }
 
 /// The hexadecimal digits of a digest, in lower case.
-fn digits_of(digest: &[u8; 32]) -> [u8; 64]
+pub fn digits_of(digest: &[u8; 32]) -> [u8; 64]
     ensures { result ≡ encode_lower digest.now }
 {
     let mut digits = [0u8; 64];

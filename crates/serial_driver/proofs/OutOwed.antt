@@ -7,9 +7,9 @@ use Rattle.clock_policy.specs.declared.key.Key.{Key}
 use Rattle.flat_machine.specs.declared.end.KillCause.{KillCause}
 use Rattle.flat_machine.specs.declared.end.KillCause.TheVariants as cause
 use Rattle.page_store.specs.JobValue.{JobValue}
-use Rattle.paged_memory.proofs.AmongLaws.{some_saving}
+use Rattle.paged_memory.proofs.access_laws.AmongLaws.{some_saving}
 use Rattle.space_core.specs.StandsFor.{SpaceValue}
-use Rattle.paged_memory.specs.Stages.{is_saving_stage}
+use Rattle.paged_memory.specs.moves.Stages.{is_saving_stage}
 use Rattle.paged_memory.specs.Whole.{stage_in}
 use Rattle.machine_sides.specs.SavingBack.{is_saving_at}
 use Rattle.machine_sides.proofs.StageLaws.{stage_below}

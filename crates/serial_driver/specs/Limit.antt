@@ -1,7 +1,7 @@
 -- A run of so many events at most, and how it is closed.
 use Rattle.std.specs.Prelude.{◌≡◌, ◌≢◌, ℕ, ◌*◌, ◌^◌, ◌<◌, ◌≤◌, false, List, [], ◌∷◌, All, length, slice_get, Option, Some, None, IsSome}
 use Rattle.clock_policy.specs.declared.key.Key.{Key}
-use Rattle.paged_memory.specs.Stages.{is_saving_stage}
+use Rattle.paged_memory.specs.moves.Stages.{is_saving_stage}
 use Rattle.paged_memory.specs.Whole.{stage_in}
 use Rattle.machine_core.specs.declared.event.Event.{Event}
 use Rattle.machine_core.specs.declared.event.Event.TheVariants.{Saved}

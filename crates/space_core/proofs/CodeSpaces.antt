@@ -11,11 +11,11 @@ use Rattle.decoded_pages.proofs.Runs.{all_shown_on}
 use Rattle.flat_machine.specs.declared.end.End.{End}
 use Rattle.flat_machine.specs.declared.end.End.TheVariants.{Killed}
 use Rattle.flat_machine.specs.declared.end.KillCause.{KillCause}
-use Rattle.paged_memory.specs.Moving.{OnlyCaches, OnlyPages, GivesIn, SameCaches}
-use Rattle.paged_memory.specs.Notices.{emptied}
+use Rattle.paged_memory.specs.moves.Moving.{OnlyCaches, OnlyPages, GivesIn, SameCaches}
+use Rattle.paged_memory.specs.access.Notices.{emptied}
 use Rattle.paged_memory.specs.Paged.{PagedValue, memory_of}
 use Rattle.paged_memory.specs.Showing.{KeepsGivenUp}
-use Rattle.paged_memory.proofs.UsingLaws.{caches_shown}
+use Rattle.paged_memory.proofs.access_laws.UsingLaws.{caches_shown}
 use Rattle.paged_memory.specs.Whole.{harts_in}
 use Rattle.flat_machine.specs.Process.{may_step}
 use Rattle.flat_machine.proofs.StepLaws.{has_no_ending}

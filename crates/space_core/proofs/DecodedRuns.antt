@@ -9,9 +9,9 @@ use Rattle.rv_exec.specs.declared.outcome.Outcome.TheVariants.{Done, Ecall, Trap
 use Rattle.rv_exec.specs.Registers.{Registers}
 use Rattle.paged_memory.specs.Coheres.{Coheres}
 use Rattle.paged_memory.specs.Paged.{PagedValue, memory_of}
-use Rattle.paged_memory.specs.Ready.{ServesIn, KeepsReady}
-use Rattle.paged_memory.specs.ReadyLaws.{marked_still, takes_still}
-use Rattle.paged_memory.specs.Using.{MarkedIn}
+use Rattle.paged_memory.specs.access.Ready.{ServesIn, KeepsReady}
+use Rattle.paged_memory.specs.access.ReadyLaws.{marked_still, takes_still}
+use Rattle.paged_memory.specs.access.Using.{MarkedIn}
 use Rattle.paged_memory.specs.Whole.{harts_in}
 use Rattle.space_core.specs.HartLoop.{RunsTo, RunsEach, RunsUntil}
 

@@ -10,11 +10,11 @@ use Rattle.env_calls.specs.declared.stepping.Stepped.{Stepped}
 use Rattle.env_calls.specs.Leaving.{LeavesStep}
 use Rattle.env_calls.specs.Step.{step_stores}
 use Rattle.flat_machine.specs.Process.{Process, hart_registers}
-use Rattle.paged_memory.specs.HartMemory.{MarksSince}
-use Rattle.paged_memory.specs.Missing.{MissesIn, TakesIn}
-use Rattle.paged_memory.specs.Moving.{OnlyCaches}
+use Rattle.paged_memory.specs.access.HartMemory.{MarksSince}
+use Rattle.paged_memory.specs.access.Missing.{MissesIn, TakesIn}
+use Rattle.paged_memory.specs.moves.Moving.{OnlyCaches}
 use Rattle.paged_memory.specs.Paged.{PagedValue}
-use Rattle.paged_memory.specs.Using.{cache_in}
+use Rattle.paged_memory.specs.access.Using.{cache_in}
 use Rattle.space_core.specs.declared.progress.Progress.{Progress}
 use Rattle.space_core.specs.declared.progress.SliceStop.{SliceStop}
 use Rattle.space_core.specs.declared.progress.SliceStop.TheVariants.{Budget, Absent, Yield, HartDone, Ended, NoHart, ScheduleFull, NoMemory}

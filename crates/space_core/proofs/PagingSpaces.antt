@@ -4,13 +4,13 @@ use Rattle.std.specs.Prelude.{IfSome, IfNone}
 use Rattle.std.proofs.lemmas.Option.{none-some, same_Some}
 use Rattle.frame_pool.specs.FrameValue.{FrameValue}
 use Rattle.page_memory.specs.Words.{page_number}
-use Rattle.paged_memory.specs.Notices.{emptied}
+use Rattle.paged_memory.specs.access.Notices.{emptied}
 use Rattle.paged_memory.proofs.NoticesLaws.{emptied_harts}
 use Rattle.paged_memory.specs.Paged.{PagedValue}
 use Rattle.paged_memory.specs.Peeking.{bytes_of}
 use Rattle.paged_memory.proofs.ShowingLaws.{bytes_shown, shows_then_given_up}
-use Rattle.paged_memory.specs.Moving.{GivesIn, SameCaches, ShowsIn}
-use Rattle.paged_memory.proofs.UsingLaws.{same_harts}
+use Rattle.paged_memory.specs.moves.Moving.{GivesIn, SameCaches, ShowsIn}
+use Rattle.paged_memory.proofs.access_laws.UsingLaws.{same_harts}
 use Rattle.paged_memory.specs.Whole.{harts_in}
 use Rattle.flat_machine.specs.declared.end.End.{End}
 use Rattle.flat_machine.specs.Process.{Process, flat_run, opening}

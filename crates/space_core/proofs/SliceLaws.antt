@@ -7,13 +7,13 @@ use Rattle.env_calls.specs.Effect.{Effect, Runs, Yields, Spawns, Finishes, Exits
 use Rattle.env_calls.specs.Step.{effect}
 use Rattle.flat_machine.specs.Process.{Process, hart_registers, may_step, stepped, after, flat_step, flat_run}
 use Rattle.paged_memory.specs.Paged.{PagedValue}
-use Rattle.paged_memory.specs.HartMemory.{KeepsAccess}
+use Rattle.paged_memory.specs.access.HartMemory.{KeepsAccess}
 use Rattle.space_core.specs.declared.progress.SliceStop.{SliceStop}
 use Rattle.space_core.specs.declared.progress.SliceStop.TheVariants.{Budget, Absent, Yield, HartDone, Ended, NoHart, ScheduleFull, NoMemory}
 use Rattle.space_core.specs.Slicing.{OthersStay, SettlesCaches, LeavesCaches}
-use Rattle.paged_memory.specs.Using.{HoldsNone, SameCache}
-use Rattle.paged_memory.specs.Moving.{SameEntries}
-use Rattle.paged_memory.proofs.UsingLaws.{goes_same, same_held}
+use Rattle.paged_memory.specs.access.Using.{HoldsNone, SameCache}
+use Rattle.paged_memory.specs.moves.Moving.{SameEntries}
+use Rattle.paged_memory.proofs.access_laws.UsingLaws.{goes_same, same_held}
 
 -- ---- no hart that was started goes
 

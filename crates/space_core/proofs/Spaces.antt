@@ -3,13 +3,13 @@ use Rattle.std.proofs.Common.{◌≡◌, ℕ, List, Some, ◌∙◌, refl, sym, 
 use Rattle.std.specs.Option.{option_or}
 use Rattle.flat_machine.specs.declared.end.End.TheVariants.{Killed}
 use Rattle.flat_machine.specs.declared.end.KillCause.{KillCause}
-use Rattle.paged_memory.specs.Notices.{emptied}
+use Rattle.paged_memory.specs.access.Notices.{emptied}
 use Rattle.paged_memory.proofs.NoticesLaws.{emptied_harts}
 use Rattle.paged_memory.specs.Paged.{PagedValue, memory_of}
 use Rattle.paged_memory.specs.Showing.{KeepsGivenUp}
 use Rattle.paged_memory.proofs.ShowingLaws.{caches_given_up}
-use Rattle.paged_memory.specs.Moving.{OnlyCaches, OnlyPages}
-use Rattle.paged_memory.proofs.UsingLaws.{caches_shown, pages_harts}
+use Rattle.paged_memory.specs.moves.Moving.{OnlyCaches, OnlyPages}
+use Rattle.paged_memory.proofs.access_laws.UsingLaws.{caches_shown, pages_harts}
 use Rattle.paged_memory.specs.Whole.{harts_in}
 use Rattle.space_core.specs.RunningValue.{RecordedValue}
 use Rattle.space_core.specs.StandsFor.{SpaceValue, IsSpace}

@@ -26,13 +26,13 @@ use Rattle.flat_machine.specs.Process.{Process, IsWhole, may_step}
 use Rattle.flat_machine.proofs.RunLaws.{flat_run_none, one_more_step}
 use Rattle.flat_machine.specs.Settling.{harts_after, ending_after, IfSpawns}
 use Rattle.flat_machine.proofs.SettlingLaws.{room_to_spawn, settled, harts_stay}
-use Rattle.paged_memory.specs.HartMemory.{KeepsAccess, MarksSince}
-use Rattle.paged_memory.specs.HartMemoryLaws.{access_on, served_before}
-use Rattle.paged_memory.specs.Missing.{MissesIn, TakesIn}
-use Rattle.paged_memory.specs.MissingLaws.{takes_kept}
+use Rattle.paged_memory.specs.access.HartMemory.{KeepsAccess, MarksSince}
+use Rattle.paged_memory.specs.access.HartMemoryLaws.{access_on, served_before}
+use Rattle.paged_memory.specs.access.Missing.{MissesIn, TakesIn}
+use Rattle.paged_memory.specs.access.MissingLaws.{takes_kept}
 use Rattle.paged_memory.specs.Paged.{PagedValue, memory_of}
-use Rattle.paged_memory.specs.Using.{cache_in, HasIn, LacksIn, MarkedIn}
-use Rattle.paged_memory.proofs.UsingLaws.{lacked_in, had_in}
+use Rattle.paged_memory.specs.access.Using.{cache_in, HasIn, LacksIn, MarkedIn}
+use Rattle.paged_memory.proofs.access_laws.UsingLaws.{lacked_in, had_in}
 use Rattle.space_core.specs.declared.progress.Progress.{Progress}
 use Rattle.space_core.specs.declared.progress.Progress.TheVariants as progress
 use Rattle.space_core.specs.declared.progress.SliceStop.{SliceStop}

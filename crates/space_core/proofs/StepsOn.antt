@@ -17,15 +17,15 @@ use Rattle.flat_machine.specs.Schedule.{written_out, room}
 use Rattle.flat_machine.proofs.StepLaws.{started}
 use Rattle.flat_machine.proofs.TurnsLaws.{one_more}
 use Rattle.paged_memory.specs.Coheres.{Coheres}
-use Rattle.paged_memory.specs.Copies.{KeepsCopies}
-use Rattle.paged_memory.specs.HartMemory.{MarksSince}
-use Rattle.paged_memory.specs.HartMemoryLaws.{access_itself}
-use Rattle.paged_memory.specs.Missing.{TakesIn}
-use Rattle.paged_memory.specs.Moving.{OnlyCaches, SameTablesIn}
+use Rattle.paged_memory.specs.cleaning.Copies.{KeepsCopies}
+use Rattle.paged_memory.specs.access.HartMemory.{MarksSince}
+use Rattle.paged_memory.specs.access.HartMemoryLaws.{access_itself}
+use Rattle.paged_memory.specs.access.Missing.{TakesIn}
+use Rattle.paged_memory.specs.moves.Moving.{OnlyCaches, SameTablesIn}
 use Rattle.paged_memory.specs.Paged.{PagedValue, memory_of}
 use Rattle.paged_memory.proofs.ShowingLaws.{used_given_up}
-use Rattle.paged_memory.specs.Using.{cache_in, HasIn, LacksIn, MarkedIn, KeepsIn}
-use Rattle.paged_memory.proofs.UsingLaws.{caches_shown, caches_marks, same_marks}
+use Rattle.paged_memory.specs.access.Using.{cache_in, HasIn, LacksIn, MarkedIn, KeepsIn}
+use Rattle.paged_memory.proofs.access_laws.UsingLaws.{caches_shown, caches_marks, same_marks}
 use Rattle.paged_memory.specs.Whole.{is_used_in, is_dirty_in, harts_in}
 use Rattle.space_core.specs.declared.progress.Slice.{Slice}
 use Rattle.space_core.specs.declared.progress.SliceStop.{SliceStop}

@@ -1,7 +1,7 @@
 -- What an ending changes of the caches of a process's harts.
 use Rattle.std.specs.Prelude.{Option, Some, None}
 use Rattle.flat_machine.specs.declared.end.End.{End}
-pub use Rattle.paged_memory.specs.Notices.{noticed, emptied}
+pub use Rattle.paged_memory.specs.access.Notices.{noticed, emptied}
 use Rattle.paged_memory.specs.Paged.{PagedValue}
 
 -- the caches of all harts are emptied where the machine ends a process that has not ended

@@ -10,10 +10,10 @@ use Rattle.env_calls.specs.Serving.{UsesPages}
 use Rattle.flat_machine.specs.Process.{may_step, flat_step, flat_run}
 use Rattle.flat_machine.specs.Refusals.{WantsMemory}
 use Rattle.flat_machine.specs.Schedule.{written_out, room}
-use Rattle.paged_memory.specs.HartMemory.{KeepsAccess, MarksSince}
-use Rattle.paged_memory.specs.Missing.{TakesIn}
+use Rattle.paged_memory.specs.access.HartMemory.{KeepsAccess, MarksSince}
+use Rattle.paged_memory.specs.access.Missing.{TakesIn}
 use Rattle.paged_memory.specs.Paged.{PagedValue, memory_of}
-use Rattle.paged_memory.specs.Using.{cache_in, HasIn, LacksIn, MarkedIn}
+use Rattle.paged_memory.specs.access.Using.{cache_in, HasIn, LacksIn, MarkedIn}
 use Rattle.space_core.specs.declared.progress.Progress.{Progress}
 use Rattle.space_core.specs.declared.progress.SliceStop.{SliceStop}
 use Rattle.space_core.specs.FromBelow.{AtAbsent, LeavesNext, MissesNext}

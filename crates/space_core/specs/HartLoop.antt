@@ -10,10 +10,10 @@ use Rattle.rv_exec.specs.Uses.{pages_stored}
 use Rattle.env_calls.specs.Finishing.{CameTo}
 use Rattle.flat_machine.specs.Process.{IsWhole}
 use Rattle.paged_memory.specs.Coheres.{Coheres}
-use Rattle.paged_memory.specs.HartMemory.{KeepsAccess, MarksSince}
-use Rattle.paged_memory.specs.Missing.{MissesIn, TakesIn}
+use Rattle.paged_memory.specs.access.HartMemory.{KeepsAccess, MarksSince}
+use Rattle.paged_memory.specs.access.Missing.{MissesIn, TakesIn}
 use Rattle.paged_memory.specs.Paged.{PagedValue, memory_of}
-use Rattle.paged_memory.specs.Using.{cache_in, HasIn, LacksIn, MarkedIn}
+use Rattle.paged_memory.specs.access.Using.{cache_in, HasIn, LacksIn, MarkedIn}
 use Rattle.space_core.specs.RunningValue.{RunningValue, with_memory}
 
 module _ {S : Type 0} (held : S → List ℕ) (honest : Type 0) (hart : ℕ) where

@@ -6,9 +6,9 @@ use Rattle.space_core.specs.declared.progress.SliceStop.{SliceStop}
 use Rattle.space_core.specs.declared.progress.SliceStop.TheVariants.{Budget, Absent, Yield, HartDone, Ended, NoHart, ScheduleFull, NoMemory}
 use Rattle.space_core.specs.RunningValue.{with_memory}
 use Rattle.space_core.specs.StandsFor.{SpaceValue}
-use Rattle.paged_memory.specs.Copies.{KeepsCopies}
-use Rattle.paged_memory.specs.Moving.{SameTablesIn}
-use Rattle.paged_memory.specs.Using.{GoesOnIn, HasIn, HoldsNone, KeepsIn, SameCache, holds_in}
+use Rattle.paged_memory.specs.cleaning.Copies.{KeepsCopies}
+use Rattle.paged_memory.specs.moves.Moving.{SameTablesIn}
+use Rattle.paged_memory.specs.access.Using.{GoesOnIn, HasIn, HoldsNone, KeepsIn, SameCache, holds_in}
 use Rattle.paged_memory.specs.Whole.{is_used_in, is_dirty_in, harts_in}
 
 -- the flat process with what its pages show, where slots hold this

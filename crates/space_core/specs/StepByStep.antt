@@ -3,8 +3,8 @@ use Rattle.std.specs.Prelude.{◌≡◌, ◌≢◌, ℕ, zero, suc, ◌+◌, ◌
 use Rattle.rv_exec.specs.Outcomes.{Used}
 use Rattle.flat_machine.specs.Process.{flat_run}
 use Rattle.flat_machine.specs.Schedule.{written_out, room}
-use Rattle.paged_memory.specs.HartMemory.{MarksSince}
-use Rattle.paged_memory.specs.Missing.{TakesIn}
+use Rattle.paged_memory.specs.access.HartMemory.{MarksSince}
+use Rattle.paged_memory.specs.access.Missing.{TakesIn}
 use Rattle.space_core.specs.declared.progress.SliceStop.{SliceStop}
 use Rattle.space_core.specs.declared.progress.SliceStop.TheVariants.{Budget}
 use Rattle.paged_memory.specs.Coheres.{Coheres}
@@ -13,7 +13,7 @@ use Rattle.space_core.specs.Next.{next_pages, next_stores, answered, begun}
 use Rattle.space_core.specs.Slices.{EachStep, BoundsEach, StopsRecorded}
 use Rattle.space_core.specs.Slicing.{shown_process, KeepsSpace}
 use Rattle.space_core.specs.StandsFor.{SpaceValue, StandsFor}
-use Rattle.paged_memory.specs.Using.{cache_in, HasIn, LacksIn, MarkedIn}
+use Rattle.paged_memory.specs.access.Using.{cache_in, HasIn, LacksIn, MarkedIn}
 
 module _ {S : Type 0} (held : S → List ℕ) (honest : Type 0) (hart : ℕ) where
   -- a slice of one instruction: whether it ran, why it stops, and what is left

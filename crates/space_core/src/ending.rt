@@ -4,10 +4,10 @@ ghost use Rattle.std.specs.Prelude.{◌≡◌, ℕ, ◌≤◌, ◌<◌, true, le
 ghost use Rattle.env_calls.specs.Finishing.{IsRest};
 ghost use Rattle.env_calls.specs.Leaving.{LeavesRest};
 ghost use Rattle.flat_machine.specs.Process.{may_step};
-ghost use Rattle.paged_memory.specs.HartMemory.{KeepsAccess, MarksSince};
-ghost use Rattle.paged_memory.specs.Missing.{MissesIn, TakesIn};
+ghost use Rattle.paged_memory.specs.access.HartMemory.{KeepsAccess, MarksSince};
+ghost use Rattle.paged_memory.specs.access.Missing.{MissesIn, TakesIn};
 ghost use Rattle.paged_memory.specs.Paged.{memory_of};
-ghost use Rattle.paged_memory.specs.Using.{cache_in, HasIn, LacksIn, MarkedIn};
+ghost use Rattle.paged_memory.specs.access.Using.{cache_in, HasIn, LacksIn, MarkedIn};
 ghost use Rattle.paged_memory.specs.Whole.{harts_in};
 ghost use Rattle.space_core.specs.Endings.{EndsOne, EndsStep, LeftBy};
 ghost use Rattle.space_core.specs.RunningValue.{with_memory};

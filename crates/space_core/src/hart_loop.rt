@@ -4,7 +4,7 @@ ghost use Rattle.std.specs.Prelude.{◌≡◌, ◌≤◌, ◌<◌, ◌-◌, true
 ghost use Rattle.rv_exec.specs.Registers.{with_pc};
 ghost use Rattle.flat_machine.specs.Process.{may_step};
 ghost use Rattle.paged_memory.specs.Paged.{memory_of};
-ghost use Rattle.paged_memory.specs.Using.{cache_in};
+ghost use Rattle.paged_memory.specs.access.Using.{cache_in};
 ghost use Rattle.paged_memory.specs.Whole.{harts_in};
 ghost use Rattle.decoded_pages.specs.Code.{ShowsAll};
 ghost use Rattle.space_core.specs.HartLoop.{RunsTo, RunsEach, RunsUntil, HartRuns};

@@ -1,8 +1,8 @@
 //! The caches of a process's harts, where one of them stops.
 
 ghost use Rattle.std.specs.Prelude.{◌≡◌, ℕ, ◌≤◌};
-ghost use Rattle.paged_memory.specs.Moving.{OnlyCaches};
-ghost use Rattle.paged_memory.specs.Using.{SameCache};
+ghost use Rattle.paged_memory.specs.moves.Moving.{OnlyCaches};
+ghost use Rattle.paged_memory.specs.access.Using.{SameCache};
 ghost use Rattle.paged_memory.specs.Whole.{harts_in};
 ghost use Rattle.space_core.specs.Slicing.{SettlesCaches};
 
@@ -12,7 +12,7 @@ use std::sync::ledger::Ledger;
 use swap_slots::SwapSlot;
 
 /// A cache for each hart that was started.
-#[tactic(auto, using(paged_memory::proofs::UsingLaws::added_cache))]
+#[tactic(auto, using(paged_memory::proofs::access_laws::UsingLaws::added_cache))]
 pub(crate) fn add_harts<L: Ledger, S: SwapSlot>(memory: &mut PagedMemory<L, S>, harts: usize)
     requires more { harts_in memory.old ≤ harts }
     requires few { harts ≤ 8 }
@@ -26,7 +26,7 @@ pub(crate) fn add_harts<L: Ledger, S: SwapSlot>(memory: &mut PagedMemory<L, S>, 
 }
 
 /// Drops the translations that a hart leaves behind where it stops so.
-#[tactic(auto, using(paged_memory::proofs::UsingLaws::emptied_each, paged_memory::proofs::UsingLaws::cleared_own))]
+#[tactic(auto, using(paged_memory::proofs::access_laws::UsingLaws::emptied_each, paged_memory::proofs::access_laws::UsingLaws::cleared_own))]
 pub(crate) fn settle_caches<L: Ledger, S: SwapSlot>(
     memory: &mut PagedMemory<L, S>,
     hart: usize,

@@ -3,8 +3,8 @@
 ghost use Rattle.std.specs.Prelude.{◌≡◌, ◌<◌, ◌≤◌, ◌^◌, true, Some, option_copied, slice_get};
 ghost use Rattle.std.specs.Prelude.{OnSome, IfNone, OnOk, OnErr, IfErr};
 ghost use Rattle.std.specs.Option.{option_or};
-ghost use Rattle.paged_memory.specs.Copies.{LeavesCopies};
-ghost use Rattle.paged_memory.specs.Moving.{ForgetsUse, BeginsToLeave, DoesNotLeave};
+ghost use Rattle.paged_memory.specs.cleaning.Copies.{LeavesCopies};
+ghost use Rattle.paged_memory.specs.moves.Moving.{ForgetsUse, BeginsToLeave, DoesNotLeave};
 ghost use Rattle.paged_memory.specs.Paged.{memory_of};
 ghost use Rattle.paged_memory.specs.Whole.{accessed_in, frames_among, residents_among, stage_in};
 ghost use Rattle.space_core.specs.Caches.{noticed, if_killed};

@@ -3,10 +3,10 @@
 ghost use Rattle.std.specs.Prelude.{◌≡◌, ◌≤◌, ◌<◌, ◌^◌, ℕ, true, false, is_some, IfErr, IfNone};
 ghost use Rattle.std.specs.Prelude.{IfSome, OnErr, OnOk, IsNone, IsSome};
 ghost use Rattle.page_store.specs.declared.answer.CleanCopy.{CleanCopy};
-ghost use Rattle.paged_memory.specs.Cleaning.{BeginsCleaning, CopiesBack, CopiesOut, CopiesPage};
-ghost use Rattle.paged_memory.specs.Cleaning.{DoesNotClean, EndsCleaningIn, is_changed_in, settles};
-ghost use Rattle.paged_memory.specs.Copies.{LeavesCopies};
-ghost use Rattle.paged_memory.specs.Moving.{with_pages};
+ghost use Rattle.paged_memory.specs.cleaning.Cleaning.{BeginsCleaning, CopiesBack, CopiesOut, CopiesPage};
+ghost use Rattle.paged_memory.specs.cleaning.Cleaning.{DoesNotClean, EndsCleaningIn, is_changed_in, settles};
+ghost use Rattle.paged_memory.specs.cleaning.Copies.{LeavesCopies};
+ghost use Rattle.paged_memory.specs.moves.Moving.{with_pages};
 ghost use Rattle.paged_memory.specs.Paged.{memory_of};
 
 use crate::space::Space;
@@ -37,7 +37,7 @@ impl<L: Ledger, S: SwapSlot> Space<L, S> {
     /// Copies a page that is being cleaned, unless a store was made since the cleaning began, or a cache lets one be made that
     /// no dirty bit would tell of. A page without a slot takes the spare one. No page of a process that has ended is being
     /// cleaned. Takes no memory.
-    #[tactic(auto, using(paged_memory::proofs::CopiesToldLaws::leaves_itself))]
+    #[tactic(auto, using(paged_memory::proofs::cleaning_laws::CopiesToldLaws::leaves_itself))]
     pub fn copy_clean(&mut self, vpn: u32, spare: &mut Option<S>) -> CleanCopy<S>
         requires { vpn < 2 ^ 20 }
         ensures answer { IsNone self.old.running.ending → CopiesPage vpn spare.old spare.new result

@@ -1,12 +1,12 @@
 //! What can happen to a page that is leaving: it lets its frame go, its save ends, or it is mapped again.
 
 ghost use Rattle.std.specs.Prelude.{◌≡◌, ◌<◌, ◌^◌, ◌↔◌, false, IfOk, IfErr, OnOk, OnErr, IsErr};
-ghost use Rattle.paged_memory.specs.Leaving.{lets_go};
-ghost use Rattle.paged_memory.specs.Copies.{LeavesCopies};
-ghost use Rattle.paged_memory.specs.Moving.{IsNotSaved, LooksAt, MapsAgain, SameCaches, SavedAway};
-ghost use Rattle.paged_memory.specs.Moving.{with_pages};
+ghost use Rattle.paged_memory.specs.moves.Leaving.{lets_go};
+ghost use Rattle.paged_memory.specs.cleaning.Copies.{LeavesCopies};
+ghost use Rattle.paged_memory.specs.moves.Moving.{IsNotSaved, LooksAt, MapsAgain, SameCaches, SavedAway};
+ghost use Rattle.paged_memory.specs.moves.Moving.{with_pages};
 ghost use Rattle.paged_memory.specs.Paged.{memory_of};
-ghost use Rattle.paged_memory.specs.Stages.{is_leaving_stage};
+ghost use Rattle.paged_memory.specs.moves.Stages.{is_leaving_stage};
 ghost use Rattle.paged_memory.specs.Whole.{stage_in};
 
 use crate::space::Space;

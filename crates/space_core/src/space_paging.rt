@@ -6,11 +6,11 @@ ghost use Rattle.std.specs.Bool.{OnTrue, OnFalse};
 ghost use Rattle.page_memory.specs.Words.{page_offset};
 ghost use Rattle.flat_machine.specs.Process.{Process, flat_run, opening};
 ghost use Rattle.flat_machine.specs.Schedule.{written_out};
-ghost use Rattle.paged_memory.specs.Copies.{LeavesCopies};
-ghost use Rattle.paged_memory.specs.Moving.{ComesIn, DoesNotShow, GivesIn, HasNothingBelow};
-ghost use Rattle.paged_memory.specs.Moving.{LeavesLookedAt, LiesBehindIn, RefusesIn, SameCaches};
-ghost use Rattle.paged_memory.specs.Moving.{SameEntries, SameTablesIn, SavesNone, SavesSome};
-ghost use Rattle.paged_memory.specs.Moving.{ShowsIn, with_pages};
+ghost use Rattle.paged_memory.specs.cleaning.Copies.{LeavesCopies};
+ghost use Rattle.paged_memory.specs.moves.Moving.{ComesIn, DoesNotShow, GivesIn, HasNothingBelow};
+ghost use Rattle.paged_memory.specs.moves.Moving.{LeavesLookedAt, LiesBehindIn, RefusesIn, SameCaches};
+ghost use Rattle.paged_memory.specs.moves.Moving.{SameEntries, SameTablesIn, SavesNone, SavesSome};
+ghost use Rattle.paged_memory.specs.moves.Moving.{ShowsIn, with_pages};
 ghost use Rattle.paged_memory.specs.Paged.{memory_of};
 ghost use Rattle.paged_memory.specs.Peeking.{bytes_of};
 ghost use Rattle.space_core.specs.Caches.{if_ended};
@@ -127,7 +127,7 @@ impl<L: Ledger, S: SwapSlot> Space<L, S> {
 
     /// The same where it is known that no page before `from` has anything. With what the page had comes the number from which
     /// on others may have something still, so that whoever takes all looks at each page once.
-    #[tactic(auto, using(paged_memory::proofs::CopiesToldLaws::leaves_itself))]
+    #[tactic(auto, using(paged_memory::proofs::cleaning_laws::CopiesToldLaws::leaves_itself))]
     pub fn take_from(&mut self, from: u32) -> Option<((Option<Frame<L>>, Option<S>), u32)>
         requires { HasNothingBelow from self.old.memory }
         ensures given { IfSome result (λ taken. GivesIn taken.0 self.old.memory self.new.memory) }

@@ -4,15 +4,15 @@ ghost use Rattle.std.specs.Prelude.{◌≡◌, ◌≤◌, ◌+◌, ◌++◌, All
 ghost use Rattle.rv_exec.specs.Outcomes.{Used};
 ghost use Rattle.flat_machine.specs.Process.{flat_run};
 ghost use Rattle.flat_machine.specs.Schedule.{written_out, room};
-ghost use Rattle.paged_memory.specs.HartMemory.{MarksSince};
+ghost use Rattle.paged_memory.specs.access.HartMemory.{MarksSince};
 ghost use Rattle.paged_memory.specs.Coheres.{Coheres};
-ghost use Rattle.paged_memory.specs.Missing.{TakesIn};
+ghost use Rattle.paged_memory.specs.access.Missing.{TakesIn};
 ghost use Rattle.space_core.specs.Next.{next_pages, next_stores, answered, begun};
 ghost use Rattle.space_core.specs.Slices.{EachStep, BoundsEach, StopsRecorded};
 ghost use Rattle.space_core.specs.Slicing.{shown_process, KeepsSpace};
 ghost use Rattle.space_core.specs.StandsFor.{StandsFor};
 ghost use Rattle.space_core.specs.StepByStep.{SlicesEach};
-ghost use Rattle.paged_memory.specs.Using.{cache_in, HasIn, LacksIn, MarkedIn};
+ghost use Rattle.paged_memory.specs.access.Using.{cache_in, HasIn, LacksIn, MarkedIn};
 
 use crate::progress::{Slice, SliceStop};
 use crate::space::Space;

@@ -1,7 +1,7 @@
 //! What is shown of one page of a process: its state, frame and bits.
 
 ghost use Rattle.std.specs.Prelude.{◌≡◌, ◌<◌, ◌^◌, is_some};
-ghost use Rattle.paged_memory.specs.PageStatus.{status_in};
+ghost use Rattle.paged_memory.specs.moves.PageStatus.{status_in};
 
 use crate::space::Space;
 use paged_memory::PageStatus;

@@ -4,7 +4,7 @@ ghost use Rattle.std.specs.Prelude.{◌≡◌, ◌≤◌, ◌<◌, ◌⊎◌, tr
 ghost use Rattle.flat_machine.specs.Process.{may_step};
 ghost use Rattle.flat_machine.specs.Schedule.{room};
 ghost use Rattle.paged_memory.specs.Paged.{memory_of};
-ghost use Rattle.paged_memory.specs.Using.{LacksIn};
+ghost use Rattle.paged_memory.specs.access.Using.{LacksIn};
 ghost use Rattle.space_core.specs.Next.{answered, begun};
 ghost use Rattle.space_core.specs.RunningValue.{with_memory};
 ghost use Rattle.space_core.specs.Slices.{StopsRecorded};

@@ -1,6 +1,6 @@
 -- One page after another gives back what it has.
 use Rattle.std.proofs.Common.{is_some, refl, sym, ◌∙◌, arith}
-use Rattle.paged_memory.proofs.GivenLaws.{has_given}
+use Rattle.paged_memory.proofs.move_laws.GivenLaws.{has_given}
 use Rattle.paged_memory.proofs.NoticesLaws.{empties_harts}
 use Rattle.machine_sides.proofs.PurgeSteps.{none_gave, stopped, all_gave, caches_now, ended_still, went_on}
 use Rattle.machine_sides.proofs.purging.give_all_back.Goals as goal

@@ -1,6 +1,6 @@
 use Rattle.std.proofs.Common.{◌≡◌, None}
-use Rattle.paged_memory.proofs.GivenLaws.{giving_within}
-use Rattle.paged_memory.specs.Moving.{HasNothingBelow}
+use Rattle.paged_memory.proofs.move_laws.GivenLaws.{giving_within}
+use Rattle.paged_memory.specs.moves.Moving.{HasNothingBelow}
 use Rattle.paged_memory.specs.Whole.{harts_in}
 use Rattle.machine_sides.specs.Purging.{GivesSome}
 use Rattle.machine_sides.proofs.purging.give_all_back.Given as goal

@@ -2,9 +2,9 @@
 use Rattle.std.proofs.Common.{◌≡◌, Result, Ok, Err, sym, ◌∙◌, IfErr, true}
 use Rattle.std.specs.Result.{is_err}
 use Rattle.page_store.specs.declared.refusal.LeaveRefusal.{LeaveRefusal}
-use Rattle.paged_memory.proofs.LeaveLaws.{resident_leaves}
-use Rattle.paged_memory.specs.Moving.{DoesNotLeave}
-use Rattle.paged_memory.specs.Stages.{is_resident_stage}
+use Rattle.paged_memory.proofs.move_laws.LeaveLaws.{resident_leaves}
+use Rattle.paged_memory.specs.moves.Moving.{DoesNotLeave}
+use Rattle.paged_memory.specs.moves.Stages.{is_resident_stage}
 use Rattle.paged_memory.specs.Whole.{stage_in}
 use Rattle.machine_sides.proofs.sweeping.evict.Goals as goal
 

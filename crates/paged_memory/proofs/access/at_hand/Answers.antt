@@ -1,7 +1,7 @@
 use Rattle.std.specs.Prelude.{Option, Some, None, IfSome}
 use Rattle.page_memory.specs.Words.{page_number}
 use Rattle.tlb_core.specs.declared.tlb.Spot.{Spot}
-use Rattle.paged_memory.proofs.HitLaws.{reaches_hit, marks_hit}
+use Rattle.paged_memory.proofs.access_laws.HitLaws.{reaches_hit, marks_hit}
 use Rattle.paged_memory.proofs.access.at_hand.Goals as goal
 
 where_some : {P Q : Spot → Type 0} (o : Option Spot) → ((spot : Spot) → P spot → Q spot) → IfSome o P → IfSome o Q

@@ -1,9 +1,9 @@
 use Rattle.std.proofs.Common.{subst, inl, inr}
 use Rattle.page_memory.specs.Words.{page_number}
 use Rattle.tlb_core.specs.Cache.{Hits}
-use Rattle.paged_memory.specs.Access.{cache_of}
-use Rattle.paged_memory.specs.OnePage.{ReachesPage}
-use Rattle.paged_memory.proofs.OnePageLaws.{on_answer, on_place, reaches_at_once}
+use Rattle.paged_memory.specs.access.Access.{cache_of}
+use Rattle.paged_memory.specs.access.OnePage.{ReachesPage}
+use Rattle.paged_memory.proofs.access_laws.OnePageLaws.{on_answer, on_place, reaches_at_once}
 use Rattle.paged_memory.proofs.access.hit_or_walk.Goals as goal
 
 pub returns-in-Ok-clause-reached : goal.returns-in-Ok-clause-reached

@@ -1,5 +1,5 @@
 use Rattle.page_memory.specs.declared.words.Access.TheVariants.{Fetch}
-use Rattle.paged_memory.proofs.HitLaws.{marks_hit}
+use Rattle.paged_memory.proofs.access_laws.HitLaws.{marks_hit}
 use Rattle.paged_memory.proofs.access.is_fetched_at_once.Goals as goal
 
 pub returns-in-Ok-clause-marked : goal.returns-in-Ok-clause-marked

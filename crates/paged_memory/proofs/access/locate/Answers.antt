@@ -1,6 +1,6 @@
 use Rattle.std.proofs.Common.{◌≡◌, Some, refl, rules, sym, ◌∙◌}
 use Rattle.page_memory.specs.Entries.{place_of}
-use Rattle.paged_memory.proofs.LocateLaws.{refused_unmapped, refused_forbidden, allowed_absent, lacks_absent, located}
+use Rattle.paged_memory.proofs.access_laws.LocateLaws.{refused_unmapped, refused_forbidden, allowed_absent, lacks_absent, located}
 use Rattle.paged_memory.proofs.access.locate.Goals as goal
 
 pub returns-in_default-clause-refused : goal.returns-in_default-clause-refused

@@ -1,6 +1,6 @@
 use Rattle.std.proofs.Common.{sym, subst, inr}
 use Rattle.sv32_table.specs.EntryAt.{entry_at, ChangesEntry, walked_entry}
-use Rattle.paged_memory.proofs.WalkLaws.{Walked, walk_done}
+use Rattle.paged_memory.proofs.access_laws.WalkLaws.{Walked, walk_done}
 use Rattle.paged_memory.proofs.access.walk.Given.{Over}
 use Rattle.paged_memory.proofs.access.walk.Goals as goal
 

@@ -1,9 +1,9 @@
 use Rattle.std.proofs.Common.{◌≡◌, Some, None, refl, sym, ◌∙◌, subst}
 use Rattle.page_memory.specs.Entries.{place_of}
 use Rattle.page_store.specs.declared.refusal.CleanRefusal.TheVariants.{NotResident}
-use Rattle.paged_memory.specs.Cleaning.{RefusesClean}
-use Rattle.paged_memory.proofs.CleaningLaws.{begun_at, refused_at, refused_begin}
-use Rattle.paged_memory.proofs.PagedLaws.{page_at-nowhere}
+use Rattle.paged_memory.specs.cleaning.Cleaning.{RefusesClean}
+use Rattle.paged_memory.proofs.cleaning_laws.CleaningLaws.{begun_at, refused_at, refused_begin}
+use Rattle.paged_memory.proofs.move_laws.PagedLaws.{page_at-nowhere}
 use Rattle.paged_memory.proofs.cleaning.begin_page.Goals as goal
 
 pub returns-in_default-clause-refused : goal.returns-in_default-clause-refused

@@ -1,10 +1,10 @@
 use Rattle.std.proofs.Common.{◌≡◌, Some, None, refl, sym, ap, ◌∙◌, subst}
 use Rattle.page_memory.specs.Entries.{place_of, with_value}
 use Rattle.page_store.specs.declared.answer.CleanCopy.TheVariants.{NotCleaning}
-use Rattle.paged_memory.specs.Cleaning.{CopiesAt}
-use Rattle.paged_memory.proofs.CleaningLaws.{unsettled_page}
-use Rattle.paged_memory.proofs.MovesLaws.{with_same}
-use Rattle.paged_memory.proofs.PagedLaws.{changed_by, page_at-nowhere, page_at-place}
+use Rattle.paged_memory.specs.cleaning.Cleaning.{CopiesAt}
+use Rattle.paged_memory.proofs.cleaning_laws.CleaningLaws.{unsettled_page}
+use Rattle.paged_memory.proofs.move_laws.MovesLaws.{with_same}
+use Rattle.paged_memory.proofs.move_laws.PagedLaws.{changed_by, page_at-nowhere, page_at-place}
 use Rattle.paged_memory.proofs.cleaning.copy_page.Goals as goal
 
 pub returns-in_default-clause-answer : goal.returns-in_default-clause-answer

@@ -1,5 +1,5 @@
 use Rattle.std.proofs.Common.{◌^◌, arith, sym}
-use Rattle.paged_memory.proofs.CleaningLaws.{none_between, none_behind}
+use Rattle.paged_memory.proofs.cleaning_laws.CleaningLaws.{none_between, none_behind}
 use Rattle.paged_memory.proofs.cleaning.next_changed.Goals as goal
 
 pub returns-then-is_changed_resident-clause-least : goal.returns-then-is_changed_resident-clause-least

@@ -1,5 +1,5 @@
 use Rattle.std.proofs.Common.{◌≡◌, ℕ, ◌<◌, ◌≤◌, ◌-◌, ◌^◌, false}
-use Rattle.paged_memory.specs.Cleaning.{is_changed_resident}
+use Rattle.paged_memory.specs.cleaning.Cleaning.{is_changed_resident}
 use Rattle.paged_memory.proofs.cleaning.next_changed.Given as goal
 
 abbrev pub invariant-loop-vpn : goal.invariant-loop-vpn

@@ -1,8 +1,8 @@
 use Rattle.std.proofs.Common.{◌≡◌, Some, refl, ap, sym, ◌∙◌}
 use Rattle.page_memory.specs.Entries.{place_of, with_value}
-use Rattle.paged_memory.proofs.PagedLaws.{page_at-place, page_at-nowhere, changed_by}
-use Rattle.paged_memory.proofs.MovesLaws.{with_same}
-use Rattle.paged_memory.proofs.CollectingLaws.{not_gone}
+use Rattle.paged_memory.proofs.move_laws.PagedLaws.{page_at-place, page_at-nowhere, changed_by}
+use Rattle.paged_memory.proofs.move_laws.MovesLaws.{with_same}
+use Rattle.paged_memory.proofs.move_laws.CollectingLaws.{not_gone}
 use Rattle.paged_memory.proofs.collecting.collect_page.Goals as goal
 
 pub returns-in_default-clause-answer : goal.returns-in_default-clause-answer

@@ -1,5 +1,5 @@
 use Rattle.std.proofs.Common.{◌^◌, arith}
-use Rattle.paged_memory.proofs.GivingBackLaws.{nothing_between, nothing_behind}
+use Rattle.paged_memory.proofs.move_laws.GivingBackLaws.{nothing_between, nothing_behind}
 use Rattle.paged_memory.proofs.giving_back.first_with_something.Goals as goal
 
 pub returns-then-has_something-clause-first : goal.returns-then-has_something-clause-first

@@ -1,5 +1,5 @@
 use Rattle.std.proofs.Common.{ℕ, ◌<◌, ◌≤◌, ◌-◌, ◌^◌}
-use Rattle.paged_memory.specs.GivingBack.{GivesNothing}
+use Rattle.paged_memory.specs.moves.GivingBack.{GivesNothing}
 use Rattle.paged_memory.specs.Paged.{page_at}
 use Rattle.paged_memory.proofs.giving_back.first_with_something.Given as goal
 

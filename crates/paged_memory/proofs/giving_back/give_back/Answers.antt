@@ -1,4 +1,4 @@
-use Rattle.paged_memory.proofs.GivingBackLaws.{entries_blank, holds_given_back}
+use Rattle.paged_memory.proofs.move_laws.GivingBackLaws.{entries_blank, holds_given_back}
 use Rattle.paged_memory.proofs.giving_back.give_back.Goals as goal
 
 pub returns-clause-holds : goal.returns-clause-holds

@@ -1,7 +1,7 @@
 use Rattle.std.proofs.Common.{◌≡◌, refl, length, Some, option_map, sym, ap, ◌∙◌, subst}
 use Rattle.page_memory.specs.Entries.{place_of}
 use Rattle.paged_memory.specs.Peeking.{ShowsBytes, LeavesPage}
-use Rattle.paged_memory.proofs.PagedLaws.{page_at-place, page_at-nowhere}
+use Rattle.paged_memory.proofs.move_laws.PagedLaws.{page_at-place, page_at-nowhere}
 use Rattle.paged_memory.proofs.PeekingLaws.{page_left, page_failed}
 use Rattle.paged_memory.proofs.peeking.read_page.Goals as goal
 

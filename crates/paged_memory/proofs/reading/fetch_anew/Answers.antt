@@ -4,8 +4,8 @@ use Rattle.page_memory.specs.declared.words.Access.TheVariants.{Fetch}
 use Rattle.rv_exec.specs.declared.bus.BusError.{BusError}
 use Rattle.rv_exec.specs.declared.bus.BusError.TheVariants.{Absent}
 use Rattle.std.specs.Prelude.{Err}
-use Rattle.paged_memory.specs.OnePage.{UsesPage}
-use Rattle.paged_memory.proofs.OnePageLaws.{uses_refused}
+use Rattle.paged_memory.specs.access.OnePage.{UsesPage}
+use Rattle.paged_memory.proofs.access_laws.OnePageLaws.{uses_refused}
 use Rattle.paged_memory.proofs.reading.fetch_anew.Goals as goal
 
 pub returns-in-Err-Absent-clause-uses : goal.returns-in-Err-Absent-clause-uses

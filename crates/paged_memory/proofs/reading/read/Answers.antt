@@ -1,5 +1,5 @@
-use Rattle.paged_memory.proofs.LentLaws.{uses_lent}
-use Rattle.paged_memory.proofs.ReadLaws.{refuses}
+use Rattle.paged_memory.proofs.move_laws.LentLaws.{uses_lent}
+use Rattle.paged_memory.proofs.access_laws.ReadLaws.{refuses}
 use Rattle.paged_memory.proofs.reading.read.Goals as goal
 
 pub returns-in-Err-clause-refused : goal.returns-in-Err-clause-refused

@@ -1,4 +1,4 @@
-use Rattle.paged_memory.proofs.LentLaws.{uses_lent}
+use Rattle.paged_memory.proofs.move_laws.LentLaws.{uses_lent}
 use Rattle.paged_memory.proofs.reading.read_ready.Goals as goal
 
 pub returns-in-Some-clause-bytes : goal.returns-in-Some-clause-bytes

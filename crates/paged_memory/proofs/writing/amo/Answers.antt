@@ -2,8 +2,8 @@ use Rattle.std.proofs.Common.{◌<◌, ◌^◌, arith}
 use Rattle.page_memory.specs.Words.{page_number}
 use Rattle.page_memory.specs.declared.words.Access.TheVariants.{Store}
 use Rattle.rv_exec.specs.Amo.{amo_result}
-use Rattle.paged_memory.proofs.LentLaws.{replaced_lent}
-use Rattle.paged_memory.proofs.OnePageLaws.{uses_itself, writes_lent}
+use Rattle.paged_memory.proofs.move_laws.LentLaws.{replaced_lent}
+use Rattle.paged_memory.proofs.access_laws.OnePageLaws.{uses_itself, writes_lent}
 use Rattle.paged_memory.proofs.writing.amo.Goals as goal
 
 pub returns-in-Some-clause-answer : goal.returns-in-Some-clause-answer

@@ -2,12 +2,12 @@ use Rattle.std.proofs.Common.{◌<◌, ◌^◌, arith}
 use Rattle.page_memory.specs.Words.{page_number}
 use Rattle.page_memory.specs.declared.words.Access.TheVariants.{Store}
 use Rattle.rv_exec.specs.Amo.{amo_result}
-use Rattle.paged_memory.specs.Access.{LacksPage}
+use Rattle.paged_memory.specs.access.Access.{LacksPage}
 use Rattle.paged_memory.specs.Paged.{flat_pages}
-use Rattle.paged_memory.proofs.ReadLaws.{refuses}
-use Rattle.paged_memory.proofs.LentLaws.{replaced_lent}
-use Rattle.paged_memory.proofs.OnePageLaws.{writes_lent, writes_refused}
-use Rattle.paged_memory.proofs.WriteLaws.{replaced_refused, replaced_misaligned}
+use Rattle.paged_memory.proofs.access_laws.ReadLaws.{refuses}
+use Rattle.paged_memory.proofs.move_laws.LentLaws.{replaced_lent}
+use Rattle.paged_memory.proofs.access_laws.OnePageLaws.{writes_lent, writes_refused}
+use Rattle.paged_memory.proofs.access_laws.WriteLaws.{replaced_refused, replaced_misaligned}
 use Rattle.paged_memory.proofs.writing.amo_anew.Goals as goal
 
 pub returns-then-address-ne0-clause-answer : goal.returns-then-address-ne0-clause-answer

@@ -1,12 +1,12 @@
 use Rattle.std.proofs.Common.{◌<◌, ◌^◌, arith}
 use Rattle.page_memory.specs.Words.{page_number}
 use Rattle.page_memory.specs.declared.words.Access.TheVariants.{Store}
-use Rattle.paged_memory.specs.Access.{LacksPage}
+use Rattle.paged_memory.specs.access.Access.{LacksPage}
 use Rattle.paged_memory.specs.Paged.{flat_pages}
-use Rattle.paged_memory.proofs.ReadLaws.{refuses}
-use Rattle.paged_memory.proofs.LentLaws.{copied_lent}
-use Rattle.paged_memory.proofs.OnePageLaws.{writes_lent, writes_refused}
-use Rattle.paged_memory.proofs.WriteLaws.{copied_refused}
+use Rattle.paged_memory.proofs.access_laws.ReadLaws.{refuses}
+use Rattle.paged_memory.proofs.move_laws.LentLaws.{copied_lent}
+use Rattle.paged_memory.proofs.access_laws.OnePageLaws.{writes_lent, writes_refused}
+use Rattle.paged_memory.proofs.access_laws.WriteLaws.{copied_refused}
 use Rattle.paged_memory.proofs.writing.copy_in.Goals as goal
 
 pub returns-in-Ok-clause-answer : goal.returns-in-Ok-clause-answer

@@ -1,8 +1,8 @@
 use Rattle.std.proofs.Common.{◌<◌, ◌^◌, arith}
 use Rattle.page_memory.specs.Words.{page_number}
 use Rattle.page_memory.specs.declared.words.Access.TheVariants.{Store}
-use Rattle.paged_memory.proofs.LentLaws.{stored_lent}
-use Rattle.paged_memory.proofs.OnePageLaws.{uses_itself, writes_lent}
+use Rattle.paged_memory.proofs.move_laws.LentLaws.{stored_lent}
+use Rattle.paged_memory.proofs.access_laws.OnePageLaws.{uses_itself, writes_lent}
 use Rattle.paged_memory.proofs.writing.store.Goals as goal
 
 pub returns-in-Some-clause-answer : goal.returns-in-Some-clause-answer

@@ -7,13 +7,13 @@ use Rattle.page_memory.specs.declared.words.Access.TheVariants.{Store}
 use Rattle.rv_exec.specs.declared.bus.BusError.{BusError}
 use Rattle.rv_exec.specs.declared.bus.BusError.TheVariants.{Fault, Absent}
 use Rattle.rv_exec.specs.Answers.{BusRefuses}
-use Rattle.paged_memory.specs.Access.{LacksPage, RefusesAccess}
-use Rattle.paged_memory.specs.OnePage.{UsesPage}
+use Rattle.paged_memory.specs.access.Access.{LacksPage, RefusesAccess}
+use Rattle.paged_memory.specs.access.OnePage.{UsesPage}
 use Rattle.paged_memory.specs.Paged.{flat_pages}
-use Rattle.paged_memory.proofs.ReadLaws.{refuses}
-use Rattle.paged_memory.proofs.LentLaws.{stored_lent}
-use Rattle.paged_memory.proofs.OnePageLaws.{writes_lent, writes_refused}
-use Rattle.paged_memory.proofs.WriteLaws.{stored_refused}
+use Rattle.paged_memory.proofs.access_laws.ReadLaws.{refuses}
+use Rattle.paged_memory.proofs.move_laws.LentLaws.{stored_lent}
+use Rattle.paged_memory.proofs.access_laws.OnePageLaws.{writes_lent, writes_refused}
+use Rattle.paged_memory.proofs.access_laws.WriteLaws.{stored_refused}
 use Rattle.paged_memory.proofs.writing.store_anew.Goals as goal
 
 pub returns-then-address-bytes-ne0-clause-answer :

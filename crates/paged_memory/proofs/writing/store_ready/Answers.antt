@@ -1,6 +1,6 @@
 use Rattle.std.proofs.Common.{◌<◌, ◌^◌, arith}
 use Rattle.page_memory.specs.Words.{page_number}
-use Rattle.paged_memory.proofs.LentLaws.{bare_lent, holds_lent, stored_lent}
+use Rattle.paged_memory.proofs.move_laws.LentLaws.{bare_lent, holds_lent, stored_lent}
 use Rattle.paged_memory.proofs.writing.store_ready.Goals as goal
 
 pub returns-in-Some-clause-holds : goal.returns-in-Some-clause-holds

@@ -2,7 +2,7 @@ use Rattle.std.proofs.Common.{◌≡◌, ◌-◌, ◌≤◌}
 use Rattle.rv_exec.specs.Registers.{with_pc}
 use Rattle.space_core.specs.HartLoop.{RunsEach}
 use Rattle.space_core.proofs.hart_loop.run_at_hand.Given as goal
-use Rattle.paged_memory.specs.Using.{cache_in}
+use Rattle.paged_memory.specs.access.Using.{cache_in}
 use Rattle.paged_memory.specs.Whole.{harts_in}
 
 abbrev pub invariant-loop-left : goal.invariant-loop-left

@@ -1,7 +1,7 @@
 use Rattle.std.proofs.Common.{◌≡◌, ℕ}
 use Rattle.space_core.proofs.left_caches.add_harts.Given as goal
-use Rattle.paged_memory.specs.Moving.{OnlyCaches}
-use Rattle.paged_memory.specs.Using.{SameCache}
+use Rattle.paged_memory.specs.moves.Moving.{OnlyCaches}
+use Rattle.paged_memory.specs.access.Using.{SameCache}
 use Rattle.paged_memory.specs.Whole.{harts_in}
 
 abbrev pub invariant-loop-hart : goal.invariant-loop-hart

@@ -5,9 +5,9 @@ use Rattle.rv_exec.proofs.AccessLaws.{conditional_page, reserving_page}
 use Rattle.rv_exec.specs.Amo.{amo_result}
 use Rattle.rv_exec.specs.Answers.{with_answer}
 use Rattle.rv_exec.specs.Bounds.{Bounds}
-use Rattle.paged_memory.specs.HartMemory.{MarksWithin}
+use Rattle.paged_memory.specs.access.HartMemory.{MarksWithin}
 use Rattle.paged_memory.specs.Paged.{PagedValue, memory_of}
-use Rattle.paged_memory.proofs.BusLaws.{bus_answers, bus_bound, bus_bound_with, bus_leaves, bus_leaves_with, bus_leaves_written, bus_missed, bus_keeps, bus_keeps_written, bus_same, bus_refuses, bus_refuses_reserving}
+use Rattle.paged_memory.proofs.access_laws.BusLaws.{bus_answers, bus_bound, bus_bound_with, bus_leaves, bus_leaves_with, bus_leaves_written, bus_missed, bus_keeps, bus_keeps_written, bus_same, bus_refuses, bus_refuses_reserving}
 use Rattle.paged_memory.proofs.hart_memory.HartMemoryBus.TheImpl.Goals as goal
 
 pub fetch-tells : goal.fetch-tells

@@ -3,9 +3,9 @@ use Rattle.page_memory.specs.declared.words.Access.TheVariants.{Store}
 use Rattle.page_memory.specs.Memory.{replaced}
 use Rattle.page_memory.proofs.MemoryLaws.{replaced_of}
 use Rattle.rv_exec.specs.Amo.{amo_result}
-use Rattle.paged_memory.specs.Access.{LacksPage}
+use Rattle.paged_memory.specs.access.Access.{LacksPage}
 use Rattle.paged_memory.specs.Paged.{memory_in}
-use Rattle.paged_memory.proofs.ReservationLaws.{replace_refused}
+use Rattle.paged_memory.proofs.access_laws.ReservationLaws.{replace_refused}
 use Rattle.paged_memory.proofs.WholeLaws.{turn_goes_on, whole_answered, whole_refused, writes_not}
 use Rattle.paged_memory.proofs.hart_memory.HartMemoryBus.amo.Goals as goal
 

@@ -2,9 +2,9 @@ use Rattle.std.proofs.Common.{arith, sym, ap, ◌∙◌, Ok}
 use Rattle.page_memory.specs.declared.words.Access.TheVariants.{Store}
 use Rattle.page_memory.specs.Memory.{copied_in}
 use Rattle.page_memory.proofs.MemoryLaws.{copied_of}
-use Rattle.paged_memory.specs.Access.{LacksPage}
+use Rattle.paged_memory.specs.access.Access.{LacksPage}
 use Rattle.paged_memory.specs.Paged.{memory_in}
-use Rattle.paged_memory.proofs.ReservationLaws.{copy_refused}
+use Rattle.paged_memory.proofs.access_laws.ReservationLaws.{copy_refused}
 use Rattle.paged_memory.proofs.WholeLaws.{turn_goes_on, whole_answered, whole_refused, writes_not, writes_whole}
 use Rattle.paged_memory.proofs.hart_memory.HartMemoryBus.copy_in.Goals as goal
 

@@ -1,5 +1,5 @@
 use Rattle.std.proofs.Common.{arith}
-use Rattle.paged_memory.proofs.OnePageLaws.{uses_refused}
+use Rattle.paged_memory.proofs.access_laws.OnePageLaws.{uses_refused}
 use Rattle.paged_memory.proofs.WholeLaws.{reads_whole, turn_goes_on}
 use Rattle.paged_memory.proofs.hart_memory.HartMemoryBus.copy_out.Goals as goal
 

@@ -1,7 +1,7 @@
 use Rattle.std.proofs.Common.{arith, sym, subst}
 use Rattle.page_memory.specs.declared.words.Access.TheVariants.{Load}
 use Rattle.page_memory.specs.Words.{page_number}
-use Rattle.paged_memory.specs.Accesses.{Reads}
+use Rattle.paged_memory.specs.access.Accesses.{Reads}
 use Rattle.paged_memory.specs.Paged.{PagedValue}
 use Rattle.paged_memory.proofs.WholeLaws.{reads_whole, turn_goes_on}
 use Rattle.paged_memory.proofs.hart_memory.HartMemoryBus.load.Goals as goal

@@ -3,9 +3,9 @@ use Rattle.page_memory.specs.declared.words.Access.TheVariants.{Load}
 use Rattle.page_memory.proofs.MemoryLaws.{reserved_of}
 use Rattle.page_memory.specs.Reservations.{with_reserved}
 use Rattle.page_memory.specs.Words.{page_number}
-use Rattle.paged_memory.specs.Access.{LacksPage, MarksUse, cache_of}
+use Rattle.paged_memory.specs.access.Access.{LacksPage, MarksUse, cache_of}
 use Rattle.paged_memory.specs.Paged.{PagedValue, memory_of, flat_pages}
-use Rattle.paged_memory.proofs.ReservationLaws.{reserve_refused}
+use Rattle.paged_memory.proofs.access_laws.ReservationLaws.{reserve_refused}
 use Rattle.paged_memory.proofs.hart_memory.HartMemoryBus.load_reserved.Goals as goal
 
 pub returns-in-Ok-clause-answer : goal.returns-in-Ok-clause-answer

@@ -1,5 +1,5 @@
 use Rattle.std.proofs.Common.{refl}
-use Rattle.paged_memory.specs.HartMemoryLaws.{access_grown}
+use Rattle.paged_memory.specs.access.HartMemoryLaws.{access_grown}
 use Rattle.paged_memory.proofs.GrowthLaws.{kept_grown, stays_grown}
 use Rattle.paged_memory.proofs.hart_memory.HartMemoryBus.map_zeroed.Goals as goal
 

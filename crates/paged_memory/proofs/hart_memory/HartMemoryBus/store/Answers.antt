@@ -3,9 +3,9 @@ use Rattle.page_memory.specs.declared.words.Access.TheVariants.{Store}
 use Rattle.page_memory.specs.Memory.{stored}
 use Rattle.page_memory.proofs.MemoryLaws.{stored_of}
 use Rattle.page_memory.specs.Reservations.{left_by}
-use Rattle.paged_memory.specs.Access.{LacksPage}
+use Rattle.paged_memory.specs.access.Access.{LacksPage}
 use Rattle.paged_memory.specs.Paged.{memory_in}
-use Rattle.paged_memory.proofs.ReservationLaws.{store_refused}
+use Rattle.paged_memory.proofs.access_laws.ReservationLaws.{store_refused}
 use Rattle.paged_memory.proofs.WholeLaws.{turn_goes_on, whole_answered, whole_refused, writes_not, writes_whole}
 use Rattle.paged_memory.proofs.hart_memory.HartMemoryBus.store.Goals as goal
 

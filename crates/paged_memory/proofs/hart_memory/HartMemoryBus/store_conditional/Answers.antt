@@ -3,10 +3,10 @@ use Rattle.page_memory.specs.declared.words.Access.TheVariants.{Store}
 use Rattle.page_memory.specs.Memory.{stored_conditionally}
 use Rattle.page_memory.proofs.MemoryLaws.{conditional_of, untested}
 use Rattle.page_memory.specs.Reservations.{left_by}
-use Rattle.paged_memory.specs.Access.{LacksPage}
+use Rattle.paged_memory.specs.access.Access.{LacksPage}
 use Rattle.paged_memory.specs.Paged.{memory_in}
-use Rattle.paged_memory.proofs.ReservationLaws.{conditional_refused, untested_refused}
-use Rattle.paged_memory.proofs.OnePageLaws.{writes_refused}
+use Rattle.paged_memory.proofs.access_laws.ReservationLaws.{conditional_refused, untested_refused}
+use Rattle.paged_memory.proofs.access_laws.OnePageLaws.{writes_refused}
 use Rattle.paged_memory.proofs.WholeLaws.{turn_goes_on, whole_answered, whole_refused, writes_not, writes_nothing, writes_whole}
 use Rattle.paged_memory.proofs.hart_memory.HartMemoryBus.store_conditional.Goals as goal
 

@@ -1,4 +1,4 @@
-use Rattle.paged_memory.proofs.HartLaws.{holds_added}
+use Rattle.paged_memory.proofs.access_laws.HartLaws.{holds_added}
 use Rattle.paged_memory.proofs.memory.PagedMemory.add_hart.Goals as goal
 
 pub invariant_of-self : goal.invariant_of-self

@@ -1,6 +1,6 @@
 use Rattle.std.proofs.Common.{◌≡◌, ap, subst}
 use Rattle.paged_memory.specs.Paged.{memory_in, memory_of}
-use Rattle.paged_memory.proofs.CleaningLaws.{holds_begun, memory_begun}
+use Rattle.paged_memory.proofs.cleaning_laws.CleaningLaws.{holds_begun, memory_begun}
 use Rattle.paged_memory.proofs.memory.PagedMemory.begin_clean.Goals as goal
 
 pub invariant_of-self-2 : goal.invariant_of-self-2

@@ -1,7 +1,7 @@
 use Rattle.std.proofs.Common.{◌≡◌, ap, refl, subst}
 use Rattle.paged_memory.specs.Calls.{ChangesBy, Leaves}
 use Rattle.paged_memory.specs.Paged.{PagedValue, memory_in, memory_of}
-use Rattle.paged_memory.proofs.LeavingLaws.{memory_told, resident_told, changes_told, unmapped, begun_to_leave, leaving_copies}
+use Rattle.paged_memory.proofs.move_laws.LeavingLaws.{memory_told, resident_told, changes_told, unmapped, begun_to_leave, leaving_copies}
 use Rattle.paged_memory.proofs.memory.PagedMemory.begin_evict.Goals as goal
 
 pub invariant_of-self : goal.invariant_of-self

@@ -1,6 +1,6 @@
 use Rattle.std.proofs.Common.{◌≡◌, ap, refl, subst}
 use Rattle.paged_memory.specs.Paged.{memory_in, memory_of}
-use Rattle.paged_memory.proofs.ReturningLaws.{holds_returned, memory_returned, plain, entry_plain}
+use Rattle.paged_memory.proofs.move_laws.ReturningLaws.{holds_returned, memory_returned, plain, entry_plain}
 use Rattle.paged_memory.proofs.memory.PagedMemory.bring_back.Goals as goal
 
 pub invariant_of-self : goal.invariant_of-self

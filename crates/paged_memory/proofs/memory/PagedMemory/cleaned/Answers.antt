@@ -3,10 +3,10 @@ use Rattle.page_memory.specs.Entries.{place_of, with_value}
 use Rattle.page_store.specs.Cleaning.{EndsCleaning}
 use Rattle.page_store.specs.PageValue.{Backed}
 use Rattle.sv32_table.specs.EntryAt.{entry_at, dirty_of}
-use Rattle.paged_memory.specs.Cleaning.{IsCopyOf, EndsCleaningIn}
+use Rattle.paged_memory.specs.cleaning.Cleaning.{IsCopyOf, EndsCleaningIn}
 use Rattle.paged_memory.specs.Paged.{PagedValue, memory_in, memory_of}
-use Rattle.paged_memory.proofs.CleaningLaws.{copy_nowhere, ended_there, holds_ended, memory_ended}
-use Rattle.paged_memory.proofs.PagedLaws.{changes_at_place, page_at-place}
+use Rattle.paged_memory.proofs.cleaning_laws.CleaningLaws.{copy_nowhere, ended_there, holds_ended, memory_ended}
+use Rattle.paged_memory.proofs.move_laws.PagedLaws.{changes_at_place, page_at-place}
 use Rattle.paged_memory.proofs.memory.PagedMemory.cleaned.Goals as goal
 
 pub returns-in_default-clause-ended : goal.returns-in_default-clause-ended

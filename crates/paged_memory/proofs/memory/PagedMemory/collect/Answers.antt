@@ -1,8 +1,8 @@
 use Rattle.std.proofs.Common.{◌≡◌, ap, subst}
-use Rattle.paged_memory.specs.Leaving.{CollectsAt}
+use Rattle.paged_memory.specs.moves.Leaving.{CollectsAt}
 use Rattle.paged_memory.specs.Paged.{flat_pages, page_at, memory_in, memory_of}
 use Rattle.paged_memory.proofs.ConstancyLaws.{SameUnwritten}
-use Rattle.paged_memory.proofs.CollectingLaws.{holds_collected, memory_collected, unwritten_collected}
+use Rattle.paged_memory.proofs.move_laws.CollectingLaws.{holds_collected, memory_collected, unwritten_collected}
 use Rattle.paged_memory.proofs.memory.PagedMemory.collect.Goals as goal
 
 pub invariant_of-self : goal.invariant_of-self

@@ -1,7 +1,7 @@
 use Rattle.std.proofs.Common.{◌≡◌, ap, subst}
-use Rattle.paged_memory.specs.Cleaning.{CopiesAt}
+use Rattle.paged_memory.specs.cleaning.Cleaning.{CopiesAt}
 use Rattle.paged_memory.specs.Paged.{page_at, memory_in, memory_of}
-use Rattle.paged_memory.proofs.CleaningLaws.{holds_copied, memory_copied}
+use Rattle.paged_memory.proofs.cleaning_laws.CleaningLaws.{holds_copied, memory_copied}
 use Rattle.paged_memory.proofs.memory.PagedMemory.copy_clean.Goals as goal
 
 pub invariant_of-self : goal.invariant_of-self

@@ -1,9 +1,9 @@
 use Rattle.std.proofs.Common.{◌≡◌, false, refl, arith, subst}
 use Rattle.page_store.specs.PageValue.{is_out}
 use Rattle.paged_memory.specs.Counting.{page_passes}
-use Rattle.paged_memory.specs.Moving.{SavesNone}
+use Rattle.paged_memory.specs.moves.Moving.{SavesNone}
 use Rattle.paged_memory.specs.Paged.{PagedValue}
-use Rattle.paged_memory.proofs.GivingBackLaws.{every_page}
+use Rattle.paged_memory.proofs.move_laws.GivingBackLaws.{every_page}
 use Rattle.paged_memory.proofs.memory.PagedMemory.is_saving.Goals as goal
 
 pub returns-clause-none : goal.returns-clause-none

@@ -1,4 +1,4 @@
-use Rattle.paged_memory.proofs.CallLaws.{holds_new}
+use Rattle.paged_memory.proofs.access_laws.CallLaws.{holds_new}
 use Rattle.paged_memory.proofs.memory.PagedMemory.new.Goals as goal
 
 pub invariant_of-result : goal.invariant_of-result

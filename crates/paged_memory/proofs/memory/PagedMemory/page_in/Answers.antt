@@ -1,11 +1,11 @@
 use Rattle.std.proofs.Common.{◌≡◌, Some, OnOk, IfErr, ap, refl, sym, ◌∙◌, subst}
 use Rattle.page_memory.specs.Entries.{place_of, with_value}
-use Rattle.paged_memory.specs.Filling.{IsAbsent}
-use Rattle.paged_memory.specs.Moving.{ComesIn, RefusesIn}
+use Rattle.paged_memory.specs.moves.Filling.{IsAbsent}
+use Rattle.paged_memory.specs.moves.Moving.{ComesIn, RefusesIn}
 use Rattle.paged_memory.specs.Paged.{PagedValue, flat_pages, page_at, memory_in, memory_of}
-use Rattle.paged_memory.proofs.PagedLaws.{page_at-place, page_at-nowhere}
+use Rattle.paged_memory.proofs.move_laws.PagedLaws.{page_at-place, page_at-nowhere}
 use Rattle.paged_memory.proofs.ConstancyLaws.{SameUnwritten}
-use Rattle.paged_memory.proofs.FillingLaws.{comes_in, holds_paged_in, memory_paged_in, unwritten_paged_in, pages_brought, pages_refused, entries_brought}
+use Rattle.paged_memory.proofs.move_laws.FillingLaws.{comes_in, holds_paged_in, memory_paged_in, unwritten_paged_in, pages_brought, pages_refused, entries_brought}
 use Rattle.paged_memory.proofs.memory.PagedMemory.page_in.Goals as goal
 
 pub returns-in_default-clause-refused : goal.returns-in_default-clause-refused

@@ -1,10 +1,10 @@
 use Rattle.std.proofs.Common.{◌≡◌, ◌<◌, ◌^◌, Some, None, IfErr, IfOk, refl, arith, sym, ap, ◌∙◌, subst}
 use Rattle.page_memory.specs.Entries.{place_of, with_value}
-use Rattle.paged_memory.specs.Leaving.{IsOut}
-use Rattle.paged_memory.specs.Moving.{IsNotSaved, SavedAway}
+use Rattle.paged_memory.specs.moves.Leaving.{IsOut}
+use Rattle.paged_memory.specs.moves.Moving.{IsNotSaved, SavedAway}
 use Rattle.paged_memory.specs.Paged.{PagedValue, flat_pages, memory_in, memory_of}
 use Rattle.paged_memory.proofs.ConstancyLaws.{SameUnwritten}
-use Rattle.paged_memory.proofs.SavingLaws.{holds_saved, unwritten_saved, out_nowhere, freed_there, refused_there, memory_there, saved_away}
+use Rattle.paged_memory.proofs.move_laws.SavingLaws.{holds_saved, unwritten_saved, out_nowhere, freed_there, refused_there, memory_there, saved_away}
 use Rattle.paged_memory.proofs.memory.PagedMemory.saved.Goals as goal
 
 pub returns-in_default-clause-refused : goal.returns-in_default-clause-refused

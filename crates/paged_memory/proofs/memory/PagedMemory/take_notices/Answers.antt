@@ -1,5 +1,5 @@
 use Rattle.std.proofs.Common.{◌<◌, length, sym, subst}
-use Rattle.paged_memory.proofs.HartLaws.{holds_noticed}
+use Rattle.paged_memory.proofs.access_laws.HartLaws.{holds_noticed}
 use Rattle.paged_memory.proofs.memory.PagedMemory.take_notices.Goals as goal
 
 pub invariant_of-self : goal.invariant_of-self

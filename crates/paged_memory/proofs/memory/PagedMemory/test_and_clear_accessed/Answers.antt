@@ -1,7 +1,7 @@
 use Rattle.std.proofs.Common.{sym, ap, ◌∙◌}
 use Rattle.paged_memory.specs.Paged.{PagedValue}
 use Rattle.paged_memory.specs.Whole.{accessed_in}
-use Rattle.paged_memory.proofs.CallLaws.{accessed_by_entry, resident_by_entry, accessed_cleared}
+use Rattle.paged_memory.proofs.access_laws.CallLaws.{accessed_by_entry, resident_by_entry, accessed_cleared}
 use Rattle.paged_memory.proofs.memory.PagedMemory.test_and_clear_accessed.Goals as goal
 
 pub invariant_of-self-in-Some : goal.invariant_of-self-in-Some

@@ -5,8 +5,8 @@ use Rattle.page_memory.proofs.MemoryLaws.{stored_of}
 use Rattle.page_memory.specs.Words.{bytes_in}
 use Rattle.page_memory.proofs.Reserving.{nothing_left}
 use Rattle.paged_memory.specs.Paged.{PagedValue, memory_in, memory_of}
-use Rattle.paged_memory.specs.Ready.{KeepsReady}
-use Rattle.paged_memory.proofs.ReadyLaws.{ready_written}
+use Rattle.paged_memory.specs.access.Ready.{KeepsReady}
+use Rattle.paged_memory.proofs.access_laws.ReadyLaws.{ready_written}
 use Rattle.page_memory.specs.Words.{page_number}
 use Rattle.paged_memory.proofs.ready.PagedMemoryReadyMemory.ready_store.Goals as goal
 

@@ -1,6 +1,6 @@
 use Rattle.std.proofs.Common.{subst}
-use Rattle.paged_memory.specs.Copies.{LeavesCopies}
-use Rattle.paged_memory.proofs.CopiesCallLaws.{begun_copies}
+use Rattle.paged_memory.specs.cleaning.Copies.{LeavesCopies}
+use Rattle.paged_memory.proofs.cleaning_laws.CopiesCallLaws.{begun_copies}
 use Rattle.space_core.specs.StandsFor.{SpaceValue}
 use Rattle.paged_memory.proofs.NoticesLaws.{begun_harts}
 use Rattle.paged_memory.proofs.ShowingLaws.{begun_given_up}

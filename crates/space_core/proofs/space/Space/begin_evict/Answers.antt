@@ -1,6 +1,6 @@
 use Rattle.std.proofs.Common.{subst}
-use Rattle.paged_memory.specs.Copies.{LeavesCopies}
-use Rattle.paged_memory.proofs.CopiesCallLaws.{left_copies}
+use Rattle.paged_memory.specs.cleaning.Copies.{LeavesCopies}
+use Rattle.paged_memory.proofs.cleaning_laws.CopiesCallLaws.{left_copies}
 use Rattle.space_core.specs.StandsFor.{SpaceValue}
 use Rattle.paged_memory.proofs.NoticesLaws.{left_harts}
 use Rattle.paged_memory.proofs.ShowingLaws.{left_given_up}

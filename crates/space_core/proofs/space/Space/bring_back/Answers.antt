@@ -1,9 +1,9 @@
 use Rattle.std.proofs.Common.{subst}
-use Rattle.paged_memory.specs.Copies.{LeavesCopies}
-use Rattle.paged_memory.proofs.CopiesCallLaws.{returned_copies}
+use Rattle.paged_memory.specs.cleaning.Copies.{LeavesCopies}
+use Rattle.paged_memory.proofs.cleaning_laws.CopiesCallLaws.{returned_copies}
 use Rattle.space_core.specs.StandsFor.{SpaceValue}
 use Rattle.paged_memory.proofs.ShowingLaws.{returned_given_up}
-use Rattle.paged_memory.proofs.UsingLaws.{same_harts}
+use Rattle.paged_memory.proofs.access_laws.UsingLaws.{same_harts}
 use Rattle.space_core.proofs.CodeSpaces.{decoded_memory}
 use Rattle.space_core.proofs.space.Space.bring_back.Goals as goal
 

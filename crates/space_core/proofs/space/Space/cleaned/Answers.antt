@@ -1,6 +1,6 @@
 use Rattle.std.proofs.Common.{subst}
-use Rattle.paged_memory.proofs.CopiesCallLaws.{copies_back}
-use Rattle.paged_memory.specs.Cleaning.{CopiesBack}
+use Rattle.paged_memory.proofs.cleaning_laws.CopiesCallLaws.{copies_back}
+use Rattle.paged_memory.specs.cleaning.Cleaning.{CopiesBack}
 use Rattle.space_core.specs.StandsFor.{SpaceValue}
 use Rattle.paged_memory.proofs.ShowingLaws.{ended_given_up}
 use Rattle.space_core.proofs.CodeSpaces.{decoded_pages_same}

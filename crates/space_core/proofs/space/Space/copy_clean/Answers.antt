@@ -1,6 +1,6 @@
 use Rattle.std.proofs.Common.{subst}
-use Rattle.paged_memory.proofs.CopiesCallLaws.{copies_out}
-use Rattle.paged_memory.specs.Cleaning.{CopiesOut}
+use Rattle.paged_memory.proofs.cleaning_laws.CopiesCallLaws.{copies_out}
+use Rattle.paged_memory.specs.cleaning.Cleaning.{CopiesOut}
 use Rattle.space_core.specs.StandsFor.{SpaceValue}
 use Rattle.paged_memory.proofs.ShowingLaws.{copied_given_up}
 use Rattle.space_core.proofs.CodeSpaces.{decoded_pages_same}

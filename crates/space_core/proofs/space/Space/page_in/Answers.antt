@@ -1,9 +1,9 @@
 use Rattle.std.proofs.Common.{subst}
-use Rattle.paged_memory.specs.Copies.{LeavesCopies}
-use Rattle.paged_memory.proofs.CopiesCallLaws.{paged_in_copies}
+use Rattle.paged_memory.specs.cleaning.Copies.{LeavesCopies}
+use Rattle.paged_memory.proofs.cleaning_laws.CopiesCallLaws.{paged_in_copies}
 use Rattle.space_core.specs.StandsFor.{SpaceValue}
 use Rattle.paged_memory.proofs.ShowingLaws.{paged_in_given_up}
-use Rattle.paged_memory.proofs.UsingLaws.{same_harts}
+use Rattle.paged_memory.proofs.access_laws.UsingLaws.{same_harts}
 use Rattle.space_core.proofs.CodeSpaces.{decoded_moved}
 use Rattle.space_core.proofs.space.Space.page_in.Goals as goal
 

@@ -5,8 +5,8 @@ use Rattle.flat_machine.specs.Process.{Process, flat_run, opening}
 use Rattle.flat_machine.specs.Schedule.{written_out}
 use Rattle.paged_memory.specs.Peeking.{bytes_of}
 use Rattle.paged_memory.proofs.ShowingLaws.{peeked_given_up}
-use Rattle.paged_memory.specs.Copies.{LeavesCopies}
-use Rattle.paged_memory.proofs.ComeLaws.{looked_alike}
+use Rattle.paged_memory.specs.cleaning.Copies.{LeavesCopies}
+use Rattle.paged_memory.proofs.move_laws.ComeLaws.{looked_alike}
 use Rattle.space_core.specs.StandsFor.{SpaceValue}
 use Rattle.space_core.proofs.PagingSpaces.{bytes_flat}
 use Rattle.space_core.proofs.CodeSpaces.{decoded_pages_moved}

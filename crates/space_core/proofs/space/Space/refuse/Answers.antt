@@ -1,6 +1,6 @@
 use Rattle.std.proofs.Common.{sym, subst}
 use Rattle.decoded_pages.specs.Code.{ShowsAll}
-use Rattle.paged_memory.proofs.UsingLaws.{caches_shown}
+use Rattle.paged_memory.proofs.access_laws.UsingLaws.{caches_shown}
 use Rattle.space_core.specs.StandsFor.{SpaceValue}
 use Rattle.space_core.specs.StepByStep.{SlicesOne}
 use Rattle.space_core.proofs.StepsOn.{LeftOne, refused_one}

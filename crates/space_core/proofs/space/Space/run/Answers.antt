@@ -1,7 +1,7 @@
 use Rattle.std.proofs.Common.{length, option_map, ap, ◌∙◌, subst, arith}
 use Rattle.flat_machine.specs.Process.{may_step}
 use Rattle.flat_machine.specs.Schedule.{room}
-use Rattle.paged_memory.proofs.UsingLaws.{caches_on}
+use Rattle.paged_memory.proofs.access_laws.UsingLaws.{caches_on}
 use Rattle.space_core.specs.RunningValue.{RunningValue}
 use Rattle.space_core.specs.Slicing.{shown_process}
 use Rattle.space_core.specs.StandsFor.{SpaceValue}

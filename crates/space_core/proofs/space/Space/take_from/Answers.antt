@@ -1,8 +1,8 @@
 use Rattle.std.proofs.Common.{◌≡◌, Some, sym, ap, ◌∙◌, subst}
 use Rattle.paged_memory.proofs.NoticesLaws.{emptied_quiet, emptied_before}
-use Rattle.paged_memory.specs.Moving.{HasNothingBelow}
-use Rattle.paged_memory.specs.Copies.{LeavesCopies}
-use Rattle.paged_memory.proofs.CopiesCallLaws.{taken_copies}
+use Rattle.paged_memory.specs.moves.Moving.{HasNothingBelow}
+use Rattle.paged_memory.specs.cleaning.Copies.{LeavesCopies}
+use Rattle.paged_memory.proofs.cleaning_laws.CopiesCallLaws.{taken_copies}
 use Rattle.space_core.specs.RunningValue.{RunningValue}
 use Rattle.space_core.specs.StandsFor.{SpaceValue}
 use Rattle.space_core.proofs.CodeSpaces.{decoded_given_up}

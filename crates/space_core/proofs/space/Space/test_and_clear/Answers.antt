@@ -1,8 +1,8 @@
 use Rattle.std.proofs.Common.{subst}
 use Rattle.paged_memory.proofs.NoticesLaws.{cleared_harts}
 use Rattle.paged_memory.proofs.ShowingLaws.{forgotten_given_up, forgotten_shown}
-use Rattle.paged_memory.specs.Copies.{LeavesCopies}
-use Rattle.paged_memory.proofs.CopiesCallLaws.{forgotten_copies}
+use Rattle.paged_memory.specs.cleaning.Copies.{LeavesCopies}
+use Rattle.paged_memory.proofs.cleaning_laws.CopiesCallLaws.{forgotten_copies}
 use Rattle.space_core.specs.StandsFor.{SpaceValue}
 use Rattle.space_core.proofs.CodeSpaces.{decoded_memory}
 use Rattle.space_core.proofs.space.Space.test_and_clear.Goals as goal

@@ -1,0 +1,16 @@
+pub mod FewerLaws
+pub mod UsingLaws
+pub mod AmongLaws
+pub mod AlikeLaws
+pub mod LooksLaws
+pub mod CallLaws
+pub mod HartLaws
+pub mod WalkLaws
+pub mod LocateLaws
+pub mod ReadLaws
+pub mod ReservationLaws
+pub mod WriteLaws
+pub mod HitLaws
+pub mod OnePageLaws
+pub mod BusLaws
+pub mod ReadyLaws

@@ -1,0 +1,6 @@
+pub mod CopiesToldLaws
+pub mod CopiesMoveLaws
+pub mod CleanLaws
+pub mod CleanBarLaws
+pub mod CopiesCallLaws
+pub mod CleaningLaws

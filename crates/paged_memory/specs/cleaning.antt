@@ -1,0 +1,3 @@
+pub mod Cleaning
+pub mod Copies
+pub mod CopiesLaws

@@ -186,6 +186,7 @@ module _ {S : Type 0} where
         pool_is = gives.pool_is;
         framed = λ test. let a = gives.framed test in let none = given_frames process space gives.gives.moves quiet test in omega (arith, a, none);
         slotted = let a = gives.slotted in let none = given_slots process space gives.gives.moves quiet in omega (arith, a, none);
+        frames_named = gives.frames_named;
         named = gives.named;
         moves = gives.gives.moves;
         is = ap (λ (s : SpaceValue S). record s { purged = true }) gives.gives.stays;

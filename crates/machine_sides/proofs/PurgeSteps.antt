@@ -6,10 +6,10 @@ use Rattle.frame_pool.specs.FrameValue.{FrameValue}
 use Rattle.swap_slots.specs.PoolValue.{PoolValue}
 use Rattle.paged_memory.specs.Counting.{frame_passes}
 use Rattle.paged_memory.proofs.move_laws.GivenLaws.{has_given, none_given, then_given, all_pages, all_entries}
-use Rattle.paged_memory.specs.moves.Moving.{GivesBelow, GivesIn, HasNothingBelow, EmptiesCaches, SameCaches, SameTablesIn, slots_below, with_slot}
+use Rattle.paged_memory.specs.moves.Moving.{GivesBelow, GivesIn, HasNothingBelow, EmptiesCaches, SameCaches, SameTablesIn, with_given}
 use Rattle.paged_memory.proofs.NoticesLaws.{empties_as}
 use Rattle.paged_memory.specs.Paged.{PagedValue}
-use Rattle.paged_memory.proofs.move_laws.SlotsLaws.{none_gives_below, one_gives_below, all_gives_below}
+use Rattle.paged_memory.proofs.move_laws.SlotsLaws.{none_gives_below, one_gives_below, all_frames_below, all_slots_below}
 use Rattle.paged_memory.specs.Whole.{harts_in}
 use Rattle.pager_core.specs.Pager.{PagerState}
 use Rattle.space_core.specs.Caches.{if_ended, emptied}
@@ -32,6 +32,10 @@ frees_more : (pager between pager' : PagerState) (frames : List FrameValue) (giv
 frees_more pager between pager' frames given was frees =
     frees ∙ ap (λ (p : PagerState). record p { free = p.free ++ as_list given }) was ∙ ap (λ l. record pager { free = l }) (append_assoc pager.free frames (as_list given))
 
+append_given : {A : Type 0} (all : List A) (given : Option A) → all ++ as_list given ≡ with_given all given
+append_given all None = append-nil all
+append_given all (Some a) = refl
+
 is_none_of : {A : Type 0} (o : Option A) → is_some o ≡ false → o ≡ None
 is_none_of None h = refl
 is_none_of (Some a) h = cc
@@ -41,11 +45,7 @@ module _ {S : Type 0} where
     pub more : List S
     pub is : pool' ≡ record pool { free = pool.free ++ more }
     pub counts : length more + cond (is_some slot) 1 0 ≡ length slots + cond (is_some given) 1 0
-    pub named : with_slot more slot ≡ with_slot slots given
-
-  append_given : (slots : List S) (given : Option S) → slots ++ as_list given ≡ with_slot slots given
-  append_given slots None = append-nil slots
-  append_given slots (Some slot) = refl
+    pub named : with_given more slot ≡ with_given slots given
 
   pools_more : (pool between pool' : PoolValue S) (slots : List S) (given slot : Option S) → between ≡ record pool { free = pool.free ++ slots } → Pools given slot between pool' → PoolsMore pool pool' slots given slot
   pools_more pool between pool' slots given None was pools = record {
@@ -58,7 +58,7 @@ module _ {S : Type 0} where
     more = slots;
     is = pools.1.1 ∙ was;
     counts = ap (λ o. length slots + cond (is_some o) 1 0) (sym pools.0);
-    named = ap (with_slot slots) (sym pools.0);
+    named = ap (with_given slots) (sym pools.0);
   }
 
   -- no page has given anything back
@@ -103,7 +103,8 @@ module _ {S : Type 0} where
             let b = p.counts in
             let c = told.slots in
             omega (arith, a, b, c);
-        named = subst (λ l. GivesBelow l old.memory new.memory) (sym p.named) (one_gives_below gave.slots given old.memory mid.memory new.memory gave.named one);
+        named = subst (λ f. GivesBelow f (with_given p.more slot) old.memory new.memory) (sym (append_given gave.frames given.0))
+            (subst (λ l. GivesBelow (with_given gave.frames given.0) l old.memory new.memory) (sym p.named) (one_gives_below gave.frames gave.slots given old.memory mid.memory new.memory gave.named one));
         tabled = λ page small. rest.0 page small ∙ gave.tabled page small;
         reserved = rest.1 ∙ gave.reserved;
         stays = stays ∙ ap (λ (s : SpaceValue S). record s { memory = new.memory }) gave.stays;
@@ -133,7 +134,8 @@ module _ {S : Type 0} where
     pool_is = gave.pool_is;
     framed = λ test. let a = gave.framed test in omega (arith, a);
     slotted = let a = gave.slotted in omega (arith, a);
-    named = all_gives_below gave.slots old.memory mid.memory gave.named none;
+    frames_named = all_frames_below gave.frames gave.slots old.memory mid.memory gave.named none;
+    named = all_slots_below gave.frames gave.slots old.memory mid.memory gave.named none;
     gives = record {
       moves = record {
         process = gave.process;

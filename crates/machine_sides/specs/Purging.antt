@@ -4,7 +4,7 @@ use Rattle.clock_policy.specs.ClockPro.{purged}
 use Rattle.frame_pool.specs.FrameValue.{FrameValue}
 use Rattle.swap_slots.specs.PoolValue.{PoolValue}
 use Rattle.paged_memory.specs.Counting.{frame_passes}
-use Rattle.paged_memory.specs.moves.Moving.{GivesBelow, IsGiven, IsLeft, EmptiesCaches, SameTablesIn, slots_below, with_slot}
+use Rattle.paged_memory.specs.moves.Moving.{GivesBelow, IsGiven, IsLeft, EmptiesCaches, SameTablesIn, given_below, given_frame, given_slot, with_given}
 use Rattle.paged_memory.specs.moves.Moving as moving
 use Rattle.paged_memory.specs.Paged.{PagedValue}
 use Rattle.paged_memory.specs.Whole.{outs_within, slots_within}
@@ -52,7 +52,7 @@ module _ {S : Type 0} where
     pub pool_is : pool' ≡ record pool { free = pool.free ++ slots }
     pub framed : (test : ℕ → Bool) → frames_where test frames + frames_in new test ≡ frames_in old test
     pub slotted : length slots + (cond (is_some slot) 1 0 + slots_within new.memory) ≡ slots_within old.memory
-    pub named : GivesBelow (with_slot slots slot) old.memory new.memory
+    pub named : GivesBelow frames (with_given slots slot) old.memory new.memory
     pub tabled : SameTablesIn old.memory new.memory
     pub reserved : new.memory.reserved ≡ old.memory.reserved
     pub stays : new ≡ record old { memory = new.memory }
@@ -77,7 +77,8 @@ module _ {S : Type 0} where
     pub pool_is : pool' ≡ record pool { free = pool.free ++ slots }
     pub framed : (test : ℕ → Bool) → frames_where test frames + frames_in new test ≡ frames_in old test
     pub slotted : length slots + slots_within new.memory ≡ slots_within old.memory
-    pub named : slots ≡ slots_below old.memory (2 ^ 20)
+    pub frames_named : frames ≡ given_below given_frame old.memory (2 ^ 20)
+    pub named : slots ≡ given_below given_slot old.memory (2 ^ 20)
     pub gives : GivesAll old new
 
   -- all pages are asked for what they have
@@ -85,7 +86,7 @@ module _ {S : Type 0} where
   GivesAllBack None pager pager' pool pool' old new = GivesToPools pager pager' pool pool' old new
   GivesAllBack (Some slot) pager pager' pool pool' old new = StopsGiving slot pager pager' pool pool' old new
 
-  -- the process has given everything back, its slots by rising number of their pages, and the list has none of its pages
+  -- the process has given everything back, its frames and slots by rising number of their pages, and the list has none of its pages
   pub record PurgesAll (pager pager' : PagerSideValue) (process process' : SpaceValue S) (pool pool' : PoolValue S) : Type 0 where
     pub allowed : purge_bars process ≡ None
     pub frames : List FrameValue
@@ -94,7 +95,8 @@ module _ {S : Type 0} where
     pub pool_is : pool' ≡ record pool { free = pool.free ++ slots }
     pub framed : (test : ℕ → Bool) → frames_where test frames ≡ frames_in process test
     pub slotted : length slots ≡ slots_within process.memory
-    pub named : slots ≡ slots_below process.memory (2 ^ 20)
+    pub frames_named : frames ≡ given_below given_frame process.memory (2 ^ 20)
+    pub named : slots ≡ given_below given_slot process.memory (2 ^ 20)
     pub moves : moving.GivesAll process.memory process'.memory
     pub is : process' ≡ record process { memory = process'.memory; purged = true }
 

@@ -3,7 +3,7 @@ use Rattle.std.specs.Prelude.{◌≡◌, ℕ, false, []}
 use Rattle.elf_image.specs.Start.{Start}
 use Rattle.flat_machine.specs.Process.{opening, opening_pages}
 use Rattle.page_memory.specs.Reservations.{none_reserved}
-use Rattle.paged_memory.specs.Fresh.{HasFresh, HasNoEntry, HasOneCache}
+use Rattle.paged_memory.specs.Fresh.{HasFresh, HasNoTable, HasOneCache}
 use Rattle.space_core.specs.RunningValue.{beside}
 use Rattle.space_core.specs.StandsFor.{SpaceValue}
 
@@ -17,7 +17,7 @@ module _ {S : Type 0} where
     pub schedule : process.schedule ≡ []
     pub numbered : process.memory.process ≡ number
     pub pages : HasFresh (opening_pages start.image.pages) process.memory
-    pub tables : HasNoEntry process.memory
+    pub tables : HasNoTable process.memory
     pub caches : HasOneCache process.memory
     pub reserved : process.memory.reserved ≡ none_reserved
     pub purged : process.purged ≡ false

@@ -8,7 +8,7 @@ use Rattle.page_memory.proofs.StandsForLaws.{place_of-each}
 use Rattle.page_memory.specs.Memory.{unreserved}
 use Rattle.page_memory.specs.Pages.{Page, zero_page}
 use Rattle.page_memory.specs.Reservations.{none_reserved}
-use Rattle.sv32_table.specs.EntryAt.{entry_at}
+use Rattle.sv32_table.specs.EntryAt.{has_table}
 use Rattle.paged_memory.specs.Fresh.{fresh, all_fresh, HasFresh, IsUnmapped, AddsFresh, AddsZeros, AddsHart, MapsFresh}
 use Rattle.page_store.specs.PageValue.{fresh_zero_page}
 use Rattle.paged_memory.specs.Paged.{PagedValue, flat_page, flat_pages, memory_of}
@@ -47,7 +47,7 @@ module _ {S : Type 0} where
   maps_one_more process pages number page old new did before = record {
     process_is = ap (λ (m : PagedValue S). m.process) did ∙ before.process_is;
     mapped = ap (λ (m : PagedValue S). m.pages) did ∙ ap (λ l. l ++ (number, fresh page) ∷ []) before.mapped ∙ one_more_fresh S pages number page;
-    tables = λ n small. ap (λ (m : PagedValue S). entry_at m.tables n) did ∙ before.tables n small;
+    tables = λ n small. ap (λ (m : PagedValue S). has_table m.tables n) did ∙ before.tables n small;
     caches = ap (λ (m : PagedValue S). m.caches) did ∙ before.caches;
     reserved = ap (λ (m : PagedValue S). m.reserved) did ∙ before.reserved;
   }
@@ -58,7 +58,7 @@ module _ {S : Type 0} where
   maps_zeros process pages first count old new did before = record {
     process_is = did.process ∙ before.process_is;
     mapped = did.added ∙ ap (with_added first count fresh_zero_page) before.mapped ∙ ap (λ page. with_added first count page (all_fresh pages)) (zeros_fresh S) ∙ all_added S pages first count zero_page;
-    tables = λ n small. ap (λ tables. entry_at tables n) did.tables ∙ before.tables n small;
+    tables = λ n small. ap (λ tables. has_table tables n) did.tables ∙ before.tables n small;
     caches = did.caches ∙ before.caches;
     reserved = did.reserved ∙ before.reserved;
   }

@@ -1,11 +1,10 @@
 -- Pages that were never brought in: what a process on paged memory begins with, and how such pages are added.
-use Rattle.std.specs.Prelude.{◌≡◌, ℕ, ◌^◌, ◌<◌, None, List, [], ◌∷◌, ◌++◌, map}
+use Rattle.std.specs.Prelude.{◌≡◌, ℕ, ◌^◌, ◌<◌, false, None, List, [], ◌∷◌, ◌++◌, map}
 use Rattle.page_memory.specs.Entries.{place_of, with_added}
 use Rattle.page_memory.specs.Pages.{Page}
 use Rattle.page_memory.specs.Reservations.{none_reserved}
 use Rattle.page_store.specs.PageValue.{PageValue, Fresh, fresh_zero_page}
-use Rattle.sv32_table.specs.Entry.{blank}
-use Rattle.sv32_table.specs.EntryAt.{entry_at}
+use Rattle.sv32_table.specs.EntryAt.{has_table}
 use Rattle.paged_memory.specs.Paged.{PagedValue}
 
 module _ {S : Type 0} where
@@ -21,9 +20,9 @@ module _ {S : Type 0} where
   abbrev pub HasFresh : List (ℕ × Page) → PagedValue S → Type 0
   HasFresh pages memory = memory.pages ≡ all_fresh pages
 
-  -- no page is mapped to a frame
-  abbrev pub HasNoEntry : PagedValue S → Type 0
-  HasNoEntry memory = (number : ℕ) → number < 2 ^ 20 → entry_at memory.tables number ≡ blank
+  -- no page has a table, so that none is mapped to a frame
+  abbrev pub HasNoTable : PagedValue S → Type 0
+  HasNoTable memory = (number : ℕ) → number < 2 ^ 20 → has_table memory.tables number ≡ false
 
   -- one hart has a cache, and it is empty
   abbrev pub HasOneCache : PagedValue S → Type 0
@@ -53,6 +52,6 @@ module _ {S : Type 0} where
   pub record MapsFresh (process : ℕ) (pages : List (ℕ × Page)) (memory : PagedValue S) : Type 0 where
     pub process_is : memory.process ≡ process
     pub mapped : HasFresh pages memory
-    pub tables : HasNoEntry memory
+    pub tables : HasNoTable memory
     pub caches : memory.caches ≡ []
     pub reserved : memory.reserved ≡ none_reserved

@@ -5,7 +5,7 @@ ghost use Rattle.std.specs.Bool.{OnTrue, OnFalse};
 ghost use Rattle.page_memory.specs.Reservations.{none_reserved};
 ghost use Rattle.elf_image.specs.Image.{ArePages};
 ghost use Rattle.flat_machine.specs.Process.{opening, opening_pages};
-ghost use Rattle.paged_memory.specs.Fresh.{HasFresh, HasNoEntry, HasOneCache};
+ghost use Rattle.paged_memory.specs.Fresh.{HasFresh, HasNoTable, HasOneCache};
 ghost use Rattle.space_core.specs.RunningValue.{beside};
 
 use crate::recorded::Recorded;
@@ -34,7 +34,7 @@ impl<L: Ledger, S: SwapSlot> Space<L, S> {
         ensures schedule { IfOk result (λ space. space.schedule ≡ []) }
         ensures process { IfOk result (λ space. space.memory.process ≡ process) }
         ensures pages { IfOk result (λ space. HasFresh (opening_pages image.pages) space.memory) }
-        ensures tables { IfOk result (λ space. HasNoEntry space.memory) }
+        ensures tables { IfOk result (λ space. HasNoTable space.memory) }
         ensures caches { IfOk result (λ space. HasOneCache space.memory) }
         ensures reserved { IfOk result (λ space. space.memory.reserved ≡ none_reserved) }
         ensures purged { IfOk result (λ space. space.purged ≡ false) }
@@ -76,7 +76,7 @@ fn opening_memory<L: Ledger, S: SwapSlot>(
     requires { ArePages pages.now }
     ensures process { IfOk result (λ memory. memory.process ≡ process) }
     ensures pages { IfOk result (λ memory. HasFresh (opening_pages pages.now) memory) }
-    ensures tables { IfOk result (λ memory. HasNoEntry memory) }
+    ensures tables { IfOk result (λ memory. HasNoTable memory) }
     ensures caches { IfOk result (λ memory. HasOneCache memory) }
     ensures reserved { IfOk result (λ memory. memory.reserved ≡ none_reserved) }
 {

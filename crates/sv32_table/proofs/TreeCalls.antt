@@ -60,6 +60,12 @@ entry_at_new tables is q fits =
     let none : table_for (zero_table ∷ []) q ≡ None = table_for-pointed (zero_table ∷ []) q ∙ root_pointed (q / 1024) (omega arith) in
     rw (is, none) refl
 
+pub no_table_new : (tables : List (List ℕ)) → tables ≡ zero_table ∷ [] → (q : ℕ) → q < 2 ^ 20 → has_table tables q ≡ false
+unfolding has_table
+no_table_new tables is q fits =
+    let none : table_for (zero_table ∷ []) q ≡ None = table_for-pointed (zero_table ∷ []) q ∙ root_pointed (q / 1024) (omega arith) in
+    rw (is, none) refl
+
 -- `map` and `remap`
 pub tree_after_map : (old new : List (List ℕ)) (vpn word : ℕ) → IsTree old → vpn < 2 ^ 20 → new ≡ mapped old vpn word → IsTree new
 tree_after_map old new vpn word tree fits is = rw is (IsTree-mapped old vpn word tree fits)

@@ -34,10 +34,13 @@ impl Model for PageTables {
 }
 
 impl PageTables {
-    /// Tables in which no page has an entry.
-    #[tactic(auto, using(crate::proofs::TreeCalls::IsTree_new, crate::proofs::TreeCalls::entry_at_new))]
+    /// The root, with no table below it: no page has an entry.
+    #[tactic(auto, using(crate::proofs::TreeCalls::IsTree_new, crate::proofs::TreeCalls::entry_at_new, crate::proofs::TreeCalls::no_table_new))]
     pub fn new(alloc: Global) -> Result<PageTables, AllocError>
-        ensures { IfOk result (λ tables. (q : ℕ) → q < 2 ^ 20 → entry_at tables q ≡ blank) }
+        ensures entries { IfOk result (λ tables. (q : ℕ) → q < 2 ^ 20 →
+            entry_at tables q ≡ blank) }
+        ensures bare { IfOk result (λ tables. (q : ℕ) → q < 2 ^ 20 →
+            has_table tables q ≡ false) }
     {
         Ok(PageTables {
             tables: Tables::new(alloc)?,

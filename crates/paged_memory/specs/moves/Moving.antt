@@ -284,25 +284,30 @@ module _ {S : Type 0} where
   abbrev pub PageGiven : PagedValue S → PagedValue S → ℕ → Type 0
   PageGiven old new number = page_at new.pages number ≡ option_map page_given (page_at old.pages number)
 
-  -- the slot that a page gives back, if it has one to give
+  -- the frame and the slot that a page gives back, if it has one to give
+  abbrev pub given_frame : Option (PageValue S) → Option FrameValue
+  given_frame None = None
+  given_frame (Some page) = option_and_then (λ given. given.0) (given_back page.place)
+
   abbrev pub given_slot : Option (PageValue S) → Option S
   given_slot None = None
   given_slot (Some page) = option_and_then (λ given. given.1) (given_back page.place)
 
-  abbrev pub with_slot : List S → Option S → List S
-  with_slot slots None = slots
-  with_slot slots (Some slot) = slots ++ slot ∷ []
+  abbrev pub with_given : {A : Type 0} → List A → Option A → List A
+  with_given given None = given
+  with_given given (Some a) = given ++ a ∷ []
 
-  -- the slots that the pages below a number give back, by rising number
-  unfoldable pub slots_below : PagedValue S → ℕ → List S
-  slots_below memory zero = []
-  slots_below memory (suc number) = with_slot (slots_below memory number) (given_slot (page_at memory.pages number))
+  -- the frames, or the slots, that the pages below a number give back, by rising number
+  unfoldable pub given_below : {A : Type 0} → (Option (PageValue S) → Option A) → PagedValue S → ℕ → List A
+  given_below of memory zero = []
+  given_below of memory (suc number) = with_given (given_below of memory number) (of (page_at memory.pages number))
 
-  -- pages gave these slots back so far, all of those that the pages below a number had; each page from there on is as it was
-  pub record GivesBelow (slots : List S) (old new : PagedValue S) : Type 0 where
+  -- pages gave these frames and slots back so far, all of those that the pages below a number had; each page from there on is as it was
+  pub record GivesBelow (frames : List FrameValue) (slots : List S) (old new : PagedValue S) : Type 0 where
     pub below : ℕ
     pub within : below ≤ 2 ^ 20
-    pub named : slots ≡ slots_below old below
+    pub framed : frames ≡ given_below given_frame old below
+    pub named : slots ≡ given_below given_slot old below
     pub nothing : HasNothingBelow below new
     pub beyond : (number : ℕ) → below ≤ number → SamePage old new number
 

@@ -25,10 +25,10 @@ use Rattle.machine_sides.specs.declared.saving_back.SaveOutcome.{SaveOutcome}
 use Rattle.machine_sides.specs.declared.saving_back.SaveOutcome.TheVariants.{Freed, WrongPage, ResidentAgain, NotRestored}
 use Rattle.machine_core.specs.Machine.{CoreValue, IsMachine, IsSaveOut, total, jobs_where}
 use Rattle.machine_sides.specs.Returning.{DoesNotList}
-use Rattle.machine_sides.specs.SavingBack.{ShowsFailure, EndsSave, Settles, LeavesAgain, FailsAndReturns, FailsAndLeaves}
+use Rattle.machine_sides.specs.SavingBack.{ShowsFailure, EndsSave, LeavesAgain, FailsAndReturns, FailsAndLeaves}
 use Rattle.machine_sides.proofs.SavingLaws.{SaveEnds, freed_ends, returned_ends, left_ends}
 use Rattle.machine_core.specs.SavingOut.{saved_refusal, is_save_of, MakesSave, EndsSaving, SavesOnce, SavedAt, IsOwn, RepliesTo}
-use Rattle.machine_sides.specs.Sides.{PagerSideValue}
+use Rattle.machine_sides.specs.Sides.{PagerSideValue, MovesMemory}
 use Rattle.machine_sides.specs.Together.{savings_in, key_of}
 use Rattle.swap_slots.specs.PoolValue.{PoolValue}
 use Rattle.machine_core.proofs.Cores.{lent_back}
@@ -77,7 +77,7 @@ module _ {S : Type 0} where
     found_out = out_of saved q.memory (makes.process ∙ makes.job_process ∙ sym number) small saving
 
     -- the frame holds what was copied, so that it is the device that failed
-    device_failed : (failure : SaveFailure) (q' : SpaceValue S) → Settles (LeavesAgain failure saved) q q' → failure ≡ Device
+    device_failed : (failure : SaveFailure) (q' : SpaceValue S) → MovesMemory (LeavesAgain failure saved) q q' → failure ≡ Device
     device_failed Device q' settles = refl
     device_failed Mismatch q' settles =
         let again = leaving_again (ShowsFailure Mismatch saved) saved q.memory q'.memory settles.moves in

@@ -17,8 +17,8 @@ use Rattle.pager_core.specs.Pager.{PagerState}
 use Rattle.space_core.specs.StandsFor.{SpaceValue}
 use Rattle.machine_sides.specs.declared.saving_back.SaveFailure.{SaveFailure}
 use Rattle.machine_sides.proofs.ReturnLaws.{returned_rest, listed_frames, back_together}
-use Rattle.machine_sides.specs.SavingBack.{Settles, LeavesAgain, ShowsFailure, IsFreed, FailsAndReturns, FailsAndLeaves}
-use Rattle.machine_sides.specs.Sides.{PagerSideValue}
+use Rattle.machine_sides.specs.SavingBack.{LeavesAgain, ShowsFailure, IsFreed, FailsAndReturns, FailsAndLeaves}
+use Rattle.machine_sides.specs.Sides.{PagerSideValue, MovesMemory}
 use Rattle.machine_sides.specs.Together.{Together, savings_in, frames_where, key_of}
 use Rattle.machine_sides.proofs.TogetherLaws.{residents_same, savings_fewer, frames_same, frames_fewer}
 
@@ -69,7 +69,7 @@ module _ {S : Type 0} where
         }
 
     -- the page is leaving again, and the pager is as it was
-    failed_ends : (failure : SaveFailure) → Settles (LeavesAgain failure job) process process' → pager' ≡ pager → SaveEnds job.vpn pager.pager pager'.pager process process'
+    failed_ends : (failure : SaveFailure) → MovesMemory (LeavesAgain failure job) process process' → pager' ≡ pager → SaveEnds job.vpn pager.pager pager'.pager process process'
     failed_ends failure settles stays =
         let told = leaving_again (ShowsFailure failure job) job process.memory process'.memory settles.moves in
         record {

@@ -25,11 +25,7 @@ module _ {S : Type 0} where
   abbrev pub is_leaving_at : SpaceValue S → ℕ → Bool
   is_leaving_at space vpn = is_leaving_stage (stage_at space vpn)
 
-  -- a cache holds a translation of it still, or a copy of it is out
-  abbrev pub IsHeldYet : ℕ → SpaceValue S → Type 0
-  IsHeldYet vpn space = IsHeldStill vpn space.memory
-
-  -- neither is so; it counts as changed and has no slot, and none is free
+  -- no cache holds a translation of it, and no copy of it is out; it counts as changed and has no slot, and none is free
   pub record LacksSlot (vpn : ℕ) (space : SpaceValue S) (slots : PoolValue S) : Type 0 where
     pub wants : WantsSlot vpn space.memory
     pub empty : slots.free ≡ []
@@ -54,7 +50,7 @@ module _ {S : Type 0} where
     -- what a look at a page comes to, before the pager has a part in it
     abbrev pub Finds : Collected L S → Type 0
     Finds answer.NotLeaving = (is_leaving_at old vpn ≡ false) × ((new ≡ old) × (slots' ≡ slots))
-    Finds answer.NotYet = IsHeldYet vpn old × ((new ≡ old) × (slots' ≡ slots))
+    Finds answer.NotYet = IsHeldStill vpn old.memory × ((new ≡ old) × (slots' ≡ slots))
     Finds (answer.Clean frame) = Drops vpn frame old new × (slots' ≡ slots)
     Finds (answer.Dirty job) = StartsSaving vpn job old new slots slots'
     Finds answer.NoSlot = LacksSlot vpn old slots × ((new ≡ old) × (slots' ≡ slots))
@@ -68,7 +64,7 @@ module _ {S : Type 0} where
 
     -- a cache holds a translation of the page, or a copy of it is out: it stays
     pub record IsNotYet : Type 0 where
-      pub held : IsHeldYet vpn old
+      pub held : IsHeldStill vpn old.memory
       pub stays : StaysAll
 
     -- the page goes to its backing, and its frame is free

@@ -38,22 +38,18 @@ module _ {S : Type 0} where
   abbrev pub LeavesAgain : SaveFailure → SavedValue S → PagedValue S → PagedValue S → Type 0
   LeavesAgain failure job old new = moving.LeavesAgain (ShowsFailure failure job) job old new
 
-  -- what a save that comes back does to its process: its memory moves so, and nothing else
-  abbrev pub Settles : (PagedValue S → PagedValue S → Type 0) → SpaceValue S → SpaceValue S → Type 0
-  Settles by old new = MovesMemory by old new
-
   module _ (job : SavedValue S) where
     -- what a save that comes back is to its process: it passed, or it is of no page that is being saved, or it failed
     abbrev pub Ends : {L : Type 0} → SpaceValue S → SpaceValue S → SaveEnd L S → Type 0
-    Ends old new (end.Passed frame) = Settles (SavedAway job frame) old new
+    Ends old new (end.Passed frame) = MovesMemory (SavedAway job frame) old new
     Ends old new (end.WrongPage back) = (back ≡ job) × ((new ≡ old) × (¬ IsOutOf job old.memory))
-    Ends old new (end.Failed failure) = Settles (LeavesAgain failure job) old new
+    Ends old new (end.Failed failure) = MovesMemory (LeavesAgain failure job) old new
 
     module _ (pager pager' : PagerSideValue) (process process' : SpaceValue S) where
       -- the page is in its slot, and its frame, which holds what was saved, is free
       pub record IsFreed : Type 0 where
         pub frame : FrameValue
-        pub settles : Settles (SavedAway job frame) process process'
+        pub settles : MovesMemory (SavedAway job frame) process process'
         pub frees : FreesFrame frame pager pager'
 
       -- no save of this page is out in the process
@@ -66,12 +62,12 @@ module _ {S : Type 0} where
       -- the save failed, and the page is taken back by the list and resident again
       pub record FailsAndReturns (failure : SaveFailure) : Type 0 where
         pub between : SpaceValue S
-        pub settles : Settles (LeavesAgain failure job) process between
+        pub settles : MovesMemory (LeavesAgain failure job) process between
         pub returns : ComesBack job.vpn pager pager' between process'
 
       -- the save failed, and the page is leaving, since the list does not take it back
       pub record FailsAndLeaves (failure : SaveFailure) (refusal : Refusal) : Type 0 where
-        pub settles : Settles (LeavesAgain failure job) process process'
+        pub settles : MovesMemory (LeavesAgain failure job) process process'
         pub unlisted : DoesNotList (key_of process.memory.process job.vpn) pager pager' refusal
 
     -- a save comes back to the pager and its process

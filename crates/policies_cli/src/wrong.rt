@@ -55,6 +55,12 @@ impl<'a> From<TraceFault<'a>> for Wrong<'a> {
 }
 
 impl From<AllocError> for Wrong<'_> {
+    ghost use Rattle.std.specs.Prelude.{◌≡◌};
+    ghost use Rattle.image_files.specs.declared.fault.Fault.TheVariants.{NoMemory};
+    ghost use Rattle.policies_cli.specs.declared.wrong.Wrong.TheVariants.{Fault};
+
+    ghost from_gives = { λ _ wrong. wrong ≡ Fault NoMemory };
+
     fn from(_: AllocError) -> Self {
         Wrong::Fault(Fault::NoMemory)
     }

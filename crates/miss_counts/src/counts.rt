@@ -45,8 +45,7 @@ struct MissCount<'s> {
 impl<'s> PlayCount for MissCount<'s> {
     ghost counts = { λ counting misses. misses counting.string.now };
 
-    fn count_under(&self, _: Global, player: AnyPlayer) -> Result<u64, AllocError> {
-        let mut player = player;
+    fn count_under(&self, _: Global, player: &mut AnyPlayer) -> Result<u64, AllocError> {
         player.play(self.string)?;
         Ok(player.count())
     }

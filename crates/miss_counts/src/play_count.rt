@@ -1,6 +1,6 @@
 //! One count under each policy, whatever is counted.
 
-ghost use Rattle.std.specs.Prelude.{◌≡◌, List, [], IfOk};
+ghost use Rattle.std.specs.Prelude.{◌≡◌, List, [], true, IfOk};
 ghost use Rattle.clock_policy.specs.declared.key.Key.{Key};
 ghost use Rattle.miss_counts.specs.Counted.{IsCounted, asked, misses_of, serves};
 
@@ -20,11 +20,11 @@ pub trait PlayCount {
     ghost counts: { Self → (List Key → ℕ) → ℕ };
 
     /// The count under a policy that begins.
-    fn count_under(&self, alloc: Global, player: AnyPlayer) -> Result<u64, AllocError>
-        requires { ⟦<AnyPlayer as Counting>⟧.all player [] ≡ 0 }
+    fn count_under(&self, alloc: Global, player: &mut AnyPlayer) -> Result<u64, AllocError>
+        requires { ⟦<AnyPlayer as Counting>⟧.all player.old [] ≡ 0 }
         ensures { IfOk result (λ count. (misses : List Key → ℕ) → ((string : List Key) →
-            ⟦<AnyPlayer as Counting>⟧.all player string ≡ misses string) → count ≡ counts self.now
-            misses) };
+            ⟦<AnyPlayer as Counting>⟧.all player.old string ≡ misses string) → count ≡ counts
+            self.now misses) };
 }
 
 /// The count under a policy by its name, where it serves so many frames.
@@ -40,9 +40,23 @@ fn count_where_served<C: PlayCount>(
     if !policy.serves(frames) {
         return Ok(None);
     }
-    let player = AnyPlayer::new(alloc, policy, frames)?;
-    let count = counting.count_under(alloc, player)?;
+    let count = count_served(alloc, policy, frames, counting)?;
     Ok(Some(count))
+}
+
+/// The count under a policy that serves so many frames.
+fn count_served<C: PlayCount>(
+    alloc: Global,
+    policy: PolicyName,
+    frames: Frames,
+    counting: &C,
+) -> Result<u64, AllocError>
+    requires { serves policy frames.number ≡ true }
+    ensures { IfOk result (λ count. count ≡ C.counts counting.now (misses_of policy
+        frames.number)) }
+{
+    let mut player = AnyPlayer::new(alloc, policy, frames)?;
+    counting.count_under(alloc, &mut player)
 }
 
 /// The count under each policy that is asked for, of a string of so many references, where it is

@@ -57,8 +57,7 @@ fn count_curves<'a, R: Files + AllocGlobal, E: Write>(
         AreCurves request.now.has_optimum string curves))) }
 {
     let string = curve_string(rt, request, err)?;
-    let curves = curves_of(rt.alloc(), string.as_slice(), request.has_optimum)?;
-    Ok(curves)
+    curves_of(rt.alloc(), string.as_slice(), request.has_optimum)
 }
 
 /// Counts a sample of one page in so many, and writes what that says of the whole.

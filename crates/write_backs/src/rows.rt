@@ -25,9 +25,8 @@ struct WriteBackCount<'s> {
 impl<'s> PlayCount for WriteBackCount<'s> {
     ghost counts = { λ counting misses. write_backs misses counting.string.now };
 
-    fn count_under(&self, alloc: Global, player: AnyPlayer) -> Result<u64, AllocError> {
-        let mut player = player;
-        let count = write_backs(alloc, &mut player, self.string)?;
+    fn count_under(&self, alloc: Global, player: &mut AnyPlayer) -> Result<u64, AllocError> {
+        let count = write_backs(alloc, player, self.string)?;
         Ok(count as u64)
     }
 }

@@ -233,6 +233,10 @@ module _ {S : Type 0} (held : S → List ℕ) (honest : Type 0) where
 
 -- pages give back what they have
 
+abbrev pub with_given : {A : Type 0} → List A → Option A → List A
+with_given given None = given
+with_given given (Some a) = given ++ a ∷ []
+
 module _ {S : Type 0} where
   -- the page of a number has no frame and no slot to give back, or is being saved; the same of each below this number
   abbrev pub GivesNothingIn : PagedValue S → ℕ → Type 0
@@ -292,10 +296,6 @@ module _ {S : Type 0} where
   abbrev pub given_slot : Option (PageValue S) → Option S
   given_slot None = None
   given_slot (Some page) = option_and_then (λ given. given.1) (given_back page.place)
-
-  abbrev pub with_given : {A : Type 0} → List A → Option A → List A
-  with_given given None = given
-  with_given given (Some a) = given ++ a ∷ []
 
   -- the frames, or the slots, that the pages below a number give back, by rising number
   unfoldable pub given_below : {A : Type 0} → (Option (PageValue S) → Option A) → PagedValue S → ℕ → List A

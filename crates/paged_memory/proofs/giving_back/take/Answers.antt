@@ -16,6 +16,6 @@ pub returns : goal.returns
 returns g c =
     let at : place_of c.args.vpn c.args.pages.now ≡ Some c.place_there-place.result = c.place_there-place.ensures.place in
     changed_by c.args.pages.now c.args.vpn c.place_there-place.result c.at_mut.result.now c.give_back.new.self at c.at_mut.ensures.value (
-      sym c.give_back.ensures.given ∙ c.in-Some-give_back.is,
-      ap (λ o. record { origin = o; place = c.give_back.new.self.place }) c.give_back.ensures.origin ∙ ap (λ p. record { origin = c.at_mut.result.now.origin; place = p }) c.in-Some-give_back.ensures.purged,
+      sym c.give_back.ensures.given ∙ c.in-Some.is,
+      ap (λ o. record { origin = o; place = c.give_back.new.self.place }) c.give_back.ensures.origin ∙ ap (λ p. record { origin = c.at_mut.result.now.origin; place = p }) c.in-Some.ensures.purged,
     )

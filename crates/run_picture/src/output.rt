@@ -48,7 +48,13 @@ pub(crate) fn lengths<L: Ledger, S: SwapSlot>(
 {
     let mut lengths = Vec::new(alloc);
     'processes: for process in processes {
-        lengths.push(process.output().len())?;
+        lengths.push(length_of(process))?;
     }
     Ok(lengths)
+}
+
+fn length_of<L: Ledger, S: SwapSlot>(process: &Space<L, S>) -> usize
+    ensures { result ≡ written_by process.now }
+{
+    process.output().len()
 }

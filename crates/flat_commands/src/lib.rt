@@ -7,4 +7,4 @@ mod program;
 
 pub use asm_command::run_asm;
 pub use flat_command::run_flat;
-pub use program::run_flat_commands;
+pub use program::start;

@@ -3,21 +3,21 @@
 use crate::asm_command::run_asm;
 use crate::flat_command::run_flat;
 use command_line::{Request, read_request};
-use image_files::{Fault, Folder, finish};
+use image_files::{Fault, Folder, begin, finish};
 use std::convert::AsStr;
-use std::io::Write;
+use std::env::Env;
+use std::io::{Print, Write};
 
-/// Runs the command `flat` or `asm` on the words behind the program's name, and answers its exit status: 0 or, of a process, how it
-/// ended; 2 for a fault, which is told on `err`. The files that the words name are read and written by `rt`. Another command is bad
-/// usage here.
-pub fn run_flat_commands<R: Folder + AllocGlobal, S: AsStr, O: Write, E: Write>(
-    rt: &R,
-    words: &[S],
-    out: &mut O,
-    err: &mut E,
-) -> u8 {
-    let done = run_words(rt, words, out);
-    finish("paged", done, out, err)
+/// Runs the command `flat` or `asm` on the words that the program was started with, and returns its exit status: 0 or, of a process, how
+/// it ended; 2 for a fault, which is printed on `err`. The files that the words name are read and written by `rt`. Another command is
+/// bad usage here.
+pub fn start<R: Env + Folder + Print + AllocGlobal, E: Write>(rt: &R, err: &mut E) -> u8 {
+    let (words, mut out) = match begin(rt, "paged", err) {
+        Ok(begun) => begun,
+        Err(status) => return status,
+    };
+    let done = run_words(rt, words.as_slice(), &mut out);
+    finish("paged", done, &mut out, err)
 }
 
 fn run_words<'a, R: Folder + AllocGlobal, S: AsStr, O: Write>(

@@ -3,10 +3,9 @@
 
 use guest_cli::run_guest;
 use guest_frames::PagedMachine;
-use image_files::{Fault, begin, fail};
+use image_files::begin;
 use record_commands::explore_program;
 use run_recorder::record_program;
-use stack_room::take_stack_room;
 use std::io::IsTerminal;
 use std::process::ExitCode;
 
@@ -16,9 +15,6 @@ fn main(rt: HostRuntime) -> ExitCode {
         Ok(begun) => begun,
         Err(status) => return ExitCode::from(status),
     };
-    if !take_stack_room(rt.alloc(), words.len()) {
-        return ExitCode::from(fail("guest", Fault::NoMemory, &mut err));
-    }
     let words = words.as_slice();
     let first = match words.first() {
         Some(first) => first.as_str(),

@@ -9,12 +9,13 @@ mod files;
 mod image_file;
 mod image_kind;
 mod slots;
+mod stack_room;
 mod system_files;
 mod words;
 mod words_file;
 
 pub use beginning::begin;
-pub use ending::{fail, finish};
+pub use ending::finish;
 pub use fault::Fault;
 pub use files::{Folder, read_input, read_text, read_whole};
 pub use image_file::{image_in, read_image, read_processes, read_source};

@@ -7,5 +7,5 @@ mod run_command;
 mod status_lines;
 mod threads_command;
 
-pub use program::run_paged;
+pub use program::{run_paged, start};
 pub use status_lines::StatusLines;

@@ -3,15 +3,29 @@
 use crate::run_command::run_machines;
 use command_line::{Request, read_request};
 use flat_commands::{run_asm, run_flat};
-use image_files::{Fault, Folder, finish};
+use image_files::{Fault, Folder, begin, finish};
 use serial_commands::{run_clock, run_debug, run_drive};
 use std::convert::AsStr;
-use std::io::{Read, Write};
+use std::env::Env;
+use std::io::{Print, Read, Write};
 use std::sync::Wait;
 use std::thread::Threads;
 
-/// Runs the program on the words behind its name, and answers its exit status: 0 or, of processes, how they ended; 2 for a fault,
-/// which is told on `err`. The files that the words name are read and written by `rt`, and the lines for a debugger come from `input`.
+/// Runs the program on the words that it was started with: `run_paged`.
+pub fn start<R, I: Read, E: Write + Send>(rt: &R, input: &mut I, err: &mut E) -> u8
+where
+    R: Env + Folder + Print + AllocGlobal + Threads + Wait + Sync,
+    R::File: Send,
+{
+    let (words, mut out) = match begin(rt, "paged", err) {
+        Ok(begun) => begun,
+        Err(status) => return status,
+    };
+    run_paged(rt, words.as_slice(), input, &mut out, err)
+}
+
+/// Runs the program on the words after its name, and returns its exit status: 0 or, of processes, how they ended; 2 for a fault,
+/// which is printed on `err`. The files that the words name are read and written by `rt`, and the lines for a debugger come from `input`.
 pub fn run_paged<R, S: AsStr, I: Read, O: Write, E: Write + Send>(
     rt: &R,
     words: &[S],

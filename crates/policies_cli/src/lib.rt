@@ -18,4 +18,4 @@ mod trace_command;
 mod write_backs_command;
 mod wrong;
 
-pub use program::run_policies;
+pub use program::{run_policies, start};

@@ -7,13 +7,23 @@ use crate::totals_command::run_totals;
 use crate::trace_command::run_trace;
 use crate::write_backs_command::run_write_backs;
 use crate::wrong::Wrong;
-use image_files::{Fault, finish};
+use image_files::{Fault, begin, finish};
 use policies_requests::{PoliciesRequest, RequestFault, read_request};
 use std::convert::AsStr;
-use std::io::Write;
+use std::env::Env;
+use std::io::{Print, Write};
 use std::rt::Files;
 
-/// Runs the program on the words behind its name, and answers its exit status: 0, or 2 for a fault, which is told on `err`.
+/// Runs the program on the words that it was started with: `run_policies`.
+pub fn start<R: Env + Files + Print + AllocGlobal, E: Write>(rt: &R, err: &mut E) -> u8 {
+    let (words, mut out) = match begin(rt, "policies", err) {
+        Ok(begun) => begun,
+        Err(status) => return status,
+    };
+    run_policies(rt, words.as_slice(), &mut out, err)
+}
+
+/// Runs the program on the words after its name, and returns its exit status: 0, or 2 for a fault, which is printed on `err`.
 pub fn run_policies<R: Files + AllocGlobal, S: AsStr, O: Write, E: Write>(
     rt: &R,
     words: &[S],

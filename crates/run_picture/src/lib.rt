@@ -25,7 +25,7 @@ pub use drive::film;
 pub use film_json::{SCENES_OF_A_PIECE, write_film};
 pub use output::Output;
 pub use picture::{Picture, picture_of};
-pub use program::run_show;
+pub use program::start;
 pub use scene::{Film, Scene};
 pub use serial_film::film_run;
 pub use shown_hart::ShownHart;

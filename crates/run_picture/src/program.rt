@@ -12,26 +12,26 @@ use clock_ring::ClockRing;
 use command_line::{DriveRequest, Request, RunRequest, Threading, read_request};
 use elf_image::Image;
 use event_scripts::read_drive_script;
-use image_files::{Fault, Folder, finish, memory_slots, read_processes, read_text};
+use image_files::{Fault, Folder, begin, finish, memory_slots, read_processes, read_text};
 use machine_core::{Core, Event};
 use serial_commands::new_machine;
 use std::alloc::{AllocError, Global};
 use std::convert::AsStr;
-use std::io::Write;
+use std::env::Env;
+use std::io::{Print, Write};
 use std::marker::Brand;
 use std::sync::ledger::{Blank, Ledger};
 use swap_slots::SwapSlot;
 
-/// Runs the program on the words behind its name, which are those of the command `drive` of `paged`, or of `run --serial`, and answers
-/// its exit status: 0, or 2 for a fault, which is told on `err`. A script with a bad line has no film.
-pub fn run_show<R: Folder + AllocGlobal, S: AsStr, O: Write, E: Write>(
-    rt: &R,
-    words: &[S],
-    out: &mut O,
-    err: &mut E,
-) -> u8 {
-    let done = run_words(rt, words, out);
-    finish("show-run", done, out, err)
+/// Runs the program on the words that it was started with, which are those of the command `drive` of `paged`, or of `run --serial`, and
+/// returns its exit status: 0, or 2 for a fault, which is printed on `err`. A script with a bad line has no film.
+pub fn start<R: Env + Folder + Print + AllocGlobal, E: Write>(rt: &R, err: &mut E) -> u8 {
+    let (words, mut out) = match begin(rt, "show-run", err) {
+        Ok(begun) => begun,
+        Err(status) => return status,
+    };
+    let done = run_words(rt, words.as_slice(), &mut out);
+    finish("show-run", done, &mut out, err)
 }
 
 fn run_words<'a, R: Folder + AllocGlobal, S: AsStr, O: Write>(

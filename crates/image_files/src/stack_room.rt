@@ -1,5 +1,4 @@
 //! Room on the stack, taken before a command takes memory.
-#![tactic(auto)]
 
 use std::alloc::Global;
 

@@ -1,7 +1,7 @@
 -- How many pages were cleaned, process by process.
 use Rattle.std.proofs.Common.{◌≡◌, ◌≤◌, ◌+◌, ◌-◌, ◌^◌, ◌∙◌, ℕ, List, [], ◌∷◌, min, sum_by, ap, sym, refl, arith}
 use Rattle.std.proofs.lemmas.List.Sums.{sum_by-cons}
-use Rattle.held_process.specs.HeldValue.{HeldValue}
+use Rattle.held_machine.specs.HeldValue.{HeldValue}
 use Rattle.hart_carriers.specs.Ending.{cleans_of}
 
 -- a count so far, with the processes that are left

@@ -1,6 +1,6 @@
 -- Both crates below say alike how far a process has come.
 use Rattle.std.proofs.Common.{◌≡◌, refl}
-use Rattle.held_process.specs.HeldValue.{status_of}
+use Rattle.held_machine.specs.HeldValue.{status_of}
 use Rattle.hart_carriers.specs.Counts.{status_of as counted}
 use Rattle.space_core.specs.StandsFor.{SpaceValue}
 

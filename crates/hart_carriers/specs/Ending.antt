@@ -2,7 +2,7 @@
 use Rattle.std.specs.Prelude.{◌≡◌, ◌≤◌, ◌-◌, ◌^◌, ℕ, Bool, true, Option, Some, None, List, length, vec_len, map, All, IsSome, is_some, min, sum_by, if◌then◌else◌}
 use Rattle.held_machine.specs.Audit.{IsSound, AgreeEverywhere}
 use Rattle.held_machine.specs.DeskValue.{DeskValue}
-use Rattle.held_process.specs.HeldValue.{HeldValue}
+use Rattle.held_machine.specs.HeldValue.{HeldValue}
 use Rattle.hart_carriers.specs.FlatLines.{counts_of}
 use Rattle.elf_image.specs.Start.{Start}
 use Rattle.hart_carriers.specs.declared.crew.Crew.{Crew}

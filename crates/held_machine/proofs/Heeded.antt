@@ -15,9 +15,9 @@ use Rattle.held_machine.specs.Collecting.{CollectsHeld}
 use Rattle.held_machine.specs.DeskValue.{DeskValue}
 use Rattle.held_machine.specs.Expected.{is_expected_look, is_expected_end, is_expected_purge}
 use Rattle.held_machine.specs.Purging.{PurgesHeld}
-use Rattle.held_process.specs.HeldValue.{HeldValue, tried_if}
+use Rattle.held_machine.specs.HeldValue.{HeldValue, tried_if}
 use Rattle.held_machine.specs.SavingBack.{SavesHeld}
-use Rattle.held_process.specs.Tries.{look_failed, save_failed}
+use Rattle.held_machine.specs.Tries.{look_failed, save_failed}
 
 module _ {S : Type 0} (desk mid desk' : DeskValue) (held held' : HeldValue S) where
   module _ (key : Key) (slots slots' : PoolValue S) where

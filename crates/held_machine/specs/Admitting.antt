@@ -6,7 +6,7 @@ use Rattle.machine_sides.specs.Agreeing.{Agree, AgreeStill}
 use Rattle.machine_sides.specs.declared.admission.NotAdmitted.{NotAdmitted}
 use Rattle.held_machine.specs.Answers.{IsOther}
 use Rattle.held_machine.specs.DeskValue.{DeskValue}
-use Rattle.held_process.specs.HeldValue.{HeldValue}
+use Rattle.held_machine.specs.HeldValue.{HeldValue}
 
 module _ {S : Type 0} (desk desk' : DeskValue) (held : HeldValue S) where
   module _ (key : Key) where

@@ -2,7 +2,7 @@
 use Rattle.std.specs.Prelude.{◌≡◌, ◌≢◌, ℕ, Bool, false, None}
 use Rattle.machine_sides.specs.Agreeing.{AgreeStill}
 use Rattle.held_machine.specs.DeskValue.{DeskValue}
-use Rattle.held_process.specs.HeldValue.{HeldValue}
+use Rattle.held_machine.specs.HeldValue.{HeldValue}
 
 module _ {S : Type 0} (number : ℕ) (desk desk' : DeskValue) (held held' : HeldValue S) where
   -- the process is not the one of this number: no call was made, and the machine counts as unsound from then on

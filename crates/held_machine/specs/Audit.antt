@@ -4,7 +4,7 @@ use Rattle.machine_sides.specs.Auditing as sides
 use Rattle.machine_sides.specs.Auditing.{AreSound}
 use Rattle.paged_memory.specs.declared.counting.HeldPages.{HeldPages}
 use Rattle.held_machine.specs.DeskValue.{DeskValue}
-use Rattle.held_process.specs.HeldValue.{HeldValue}
+use Rattle.held_machine.specs.HeldValue.{HeldValue}
 use Rattle.space_core.specs.StandsFor.{SpaceValue}
 
 -- so many pages are all that the pager knows of, and only what events of the machine give has happened

@@ -7,8 +7,8 @@ use Rattle.swap_slots.specs.PoolValue.{PoolValue}
 use Rattle.held_machine.specs.Answers.{IsOther, Answers}
 use Rattle.held_machine.specs.DeskValue.{DeskValue}
 use Rattle.held_machine.specs.Expected.{is_expected_look}
-use Rattle.held_process.specs.HeldValue.{HeldValue, tried_if}
-use Rattle.held_process.specs.Tries.{look_failed}
+use Rattle.held_machine.specs.HeldValue.{HeldValue, tried_if}
+use Rattle.held_machine.specs.Tries.{look_failed}
 
 module _ {S : Type 0} (key : Key) (desk desk' : DeskValue) (held held' : HeldValue S) (slots slots' : PoolValue S) where
   -- the process is another one: no call was made

@@ -1,3 +1,8 @@
+pub mod HeldValue
+pub mod Running
+pub mod Holding
+pub mod Tries
+pub mod Cleaning
 pub mod DeskValue
 pub mod Answers
 pub mod Sweeping

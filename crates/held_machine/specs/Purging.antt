@@ -7,7 +7,7 @@ use Rattle.swap_slots.specs.PoolValue.{PoolValue}
 use Rattle.held_machine.specs.Answers.{IsOther}
 use Rattle.held_machine.specs.DeskValue.{DeskValue}
 use Rattle.held_machine.specs.Expected.{is_expected_purge}
-use Rattle.held_process.specs.HeldValue.{HeldValue}
+use Rattle.held_machine.specs.HeldValue.{HeldValue}
 
 module _ {S : Type 0} (number : ℕ) (desk desk' : DeskValue) (held held' : HeldValue S) (slots slots' : PoolValue S) where
   -- the process is another one: no call was made

@@ -6,8 +6,8 @@ use Rattle.page_store.specs.JobValue.{SavedValue}
 use Rattle.held_machine.specs.Answers.{IsOther, Answers}
 use Rattle.held_machine.specs.DeskValue.{DeskValue}
 use Rattle.held_machine.specs.Expected.{is_expected_end}
-use Rattle.held_process.specs.HeldValue.{HeldValue, tried_if}
-use Rattle.held_process.specs.Tries.{save_failed}
+use Rattle.held_machine.specs.HeldValue.{HeldValue, tried_if}
+use Rattle.held_machine.specs.Tries.{save_failed}
 
 module _ {S : Type 0} (job : SavedValue S) (desk desk' : DeskValue) (held held' : HeldValue S) where
   -- what was done, in the words of the save's end itself; a page whose save failed counts as tried for

@@ -7,7 +7,7 @@ use Rattle.machine_sides.specs.Sweeping.{Sweeps}
 use Rattle.machine_sides.specs.declared.sweeping.Swept.{Swept}
 use Rattle.held_machine.specs.Answers.{IsOther}
 use Rattle.held_machine.specs.DeskValue.{DeskValue}
-use Rattle.held_process.specs.HeldValue.{HeldValue}
+use Rattle.held_machine.specs.HeldValue.{HeldValue}
 
 module _ {S : Type 0} (desk desk' : DeskValue) (held held' : HeldValue S) where
   -- the list asks for a page of another process

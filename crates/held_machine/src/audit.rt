@@ -6,9 +6,9 @@ ghost use Rattle.held_machine.specs.Audit.{AgreeEverywhere, HoldsAll, IsSound, s
 ghost use Rattle.machine_limits.specs.Limits.{most_processes};
 
 use crate::desk::Desk;
+use crate::held::Held;
 use crate::parts::Parts;
 use clock_policy::Clock;
-use held_process::Held;
 use paged_memory::HeldPages;
 use std::sync::ledger::Ledger;
 use swap_slots::SwapSlot;

@@ -8,9 +8,10 @@ ghost use Rattle.held_machine.specs.Expected.{is_memory, is_device};
 ghost use Rattle.held_machine.specs.Expected.{is_expected_look, is_expected_end};
 ghost use Rattle.held_machine.specs.Expected.{is_expected_purge};
 
+use crate::calls;
+use crate::held::Held;
 use clock_policy::{Clock, Key, Refusal};
 use frame_pool::PoolError;
-use held_process::Held;
 use machine_sides::{
     Admission, Looked, NotAdmitted, PagerSide, Purging, SaveFailure, SaveOutcome, Swept,
 };
@@ -107,7 +108,7 @@ impl<L: Ledger, C: Clock> Desk<L, C> {
                 return None;
             }
         }
-        Some(held_process::sweep(&mut self.pager, held))
+        Some(calls::sweep(&mut self.pager, held))
     }
 
     /// Looks whether a page of this process that is leaving can let its frame go.
@@ -127,7 +128,7 @@ impl<L: Ledger, C: Clock> Desk<L, C> {
             self.mark_unsound();
             return None;
         }
-        let looked = held_process::collect(&mut self.pager, held, key.vpn, slots);
+        let looked = calls::collect(&mut self.pager, held, key.vpn, slots);
         self.stay_sound_if(is_expected_look(&looked));
         Some(looked)
     }
@@ -147,7 +148,7 @@ impl<L: Ledger, C: Clock> Desk<L, C> {
             self.mark_unsound();
             return None;
         }
-        let outcome = held_process::saved(&mut self.pager, held, job);
+        let outcome = calls::saved(&mut self.pager, held, job);
         self.stay_sound_if(is_expected_end(&outcome));
         Some(outcome)
     }
@@ -196,7 +197,7 @@ impl<L: Ledger, C: Clock> Desk<L, C> {
             self.mark_unsound();
             return None;
         }
-        let purging = held_process::purge(&mut self.pager, held, slots);
+        let purging = calls::purge(&mut self.pager, held, slots);
         self.stay_sound_if(is_expected_purge(&purging));
         Some(purging)
     }

@@ -4,8 +4,8 @@ ghost use Rattle.std.specs.Prelude.{◌≡◌, ◌≤◌, vec_len};
 ghost use Rattle.machine_limits.specs.Limits.{most_processes};
 
 use crate::desk::Desk;
+use crate::held::Held;
 use clock_policy::Clock;
-use held_process::Held;
 use std::sync::ledger::Ledger;
 use swap_slots::{SlotPool, SwapSlot};
 

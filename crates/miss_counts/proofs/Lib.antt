@@ -8,3 +8,4 @@ pub mod Floors
 pub mod RowLaws
 pub mod RowsLaws
 pub mod ReplayLaws
+pub mod WriteBackLaws

@@ -3,3 +3,5 @@ pub mod FrameNumbers
 pub mod Guests
 pub mod Playing
 pub mod Replayed
+pub mod WriteBacks
+pub mod WrittenBack

@@ -8,6 +8,7 @@ use Rattle.miss_counts.specs.FrameNumbers.{frames_for}
 use Rattle.whole_strings.specs.PageCounts.{page_count}
 use Rattle.miss_counts.specs.Guests.{pages_of}
 use Rattle.miss_counts.specs.Replayed.{HavePlayed, IsReplayed, IsReplayTable, RowsPlay}
+use Rattle.miss_counts.specs.WrittenBack.{IsWrittenBack}
 use Rattle.miss_counts.specs.declared.counts.PolicyCounts.{PolicyCounts}
 use Rattle.miss_counts.specs.declared.rows.Rows.{Rows}
 use Rattle.page_policies.specs.declared.frames.Frames.{Frames}
@@ -16,7 +17,6 @@ use Rattle.policies_requests.specs.declared.request.WriteBacksRequest.{WriteBack
 use Rattle.trace_files.specs.References.{Trace, trace_of}
 use Rattle.trace_files.specs.ReferenceAnswers.{ArePages, IsWhole, TellsPages}
 use Rattle.trace_lines.specs.declared.format.TraceFormat.{TraceFormat}
-use Rattle.write_backs.specs.WrittenBack.{IsWrittenBack}
 
 -- Something is so of a trace that a file holds, read in the format that was asked for. Which file a name opens no contract can name.
 pub record OfFile {F : Type 0} (remaining : F → Option (List ℕ)) (format : TraceFormat) (Holds : Option Trace → Type 0) : Type 0 where

@@ -13,6 +13,7 @@ use clock_policy::Key;
 use guest_strings::Reference;
 use miss_counts::{
     PolicyCounts, StageListener, TableSize, frames_for, frames_for_string, has_part,
+    write_back_rows,
 };
 use page_policies::Frames;
 use policies_requests::WriteBacksRequest;
@@ -21,7 +22,6 @@ use std::alloc::{AllocError, Global};
 use std::io::{BufRead, Write};
 use std::rt::Files;
 use trace_files::{TraceFile, open_trace, read_references};
-use write_backs::write_back_rows;
 
 /// Plays a trace on each policy, and writes a table of the pages that are written back.
 pub(crate) fn run_write_backs<'a, R: Files + AllocGlobal, W: Write, E: Write>(

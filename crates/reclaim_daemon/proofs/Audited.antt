@@ -6,7 +6,7 @@ use Rattle.machine_sides.specs.Auditing.{CountsMore}
 use Rattle.paged_memory.specs.declared.counting.HeldPages.{HeldPages}
 use Rattle.held_machine.specs.Audit.{HoldsAll, space_in}
 use Rattle.held_machine.specs.DeskValue.{DeskValue}
-use Rattle.held_process.specs.HeldValue.{HeldValue}
+use Rattle.held_machine.specs.HeldValue.{HeldValue}
 use Rattle.reclaim_daemon.specs.Audit.{FindsSound}
 
 -- some processes were counted, which are so many

@@ -7,7 +7,7 @@ use Rattle.machine_sides.specs.declared.admission.NotAdmitted.{NotAdmitted}
 use Rattle.machine_sides.specs.declared.admission.NotAdmitted.TheVariants.{Ended, NotAbsent, AlreadyResident, NoFrame, NoMemory}
 use Rattle.held_machine.specs.Answers.{IsOther}
 use Rattle.held_machine.specs.DeskValue.{DeskValue}
-use Rattle.held_process.specs.HeldValue.{HeldValue}
+use Rattle.held_machine.specs.HeldValue.{HeldValue}
 use Rattle.held_machine.specs.Admitting.{AdmitsOrNot, RefusesHeld}
 use Rattle.reclaim_daemon.specs.PagingIn.{LoadsAdmitted, PagesInHeld, told_as}
 use Rattle.reclaim_daemon.specs.declared.paging_in.PagedIn.{PagedIn}

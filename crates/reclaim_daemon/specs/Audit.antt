@@ -2,7 +2,7 @@
 use Rattle.std.specs.Prelude.{◌≡◌, ℕ, List, length}
 use Rattle.held_machine.specs.Audit.{IsSound}
 use Rattle.held_machine.specs.DeskValue.{DeskValue}
-use Rattle.held_process.specs.HeldValue.{HeldValue}
+use Rattle.held_machine.specs.HeldValue.{HeldValue}
 
 -- a pager and so many processes, as their locks kept them, were found so
 pub record FindsSound (S : Type 0) (processes : ℕ) : Type 0 where

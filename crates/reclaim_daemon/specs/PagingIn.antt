@@ -4,8 +4,8 @@ use Rattle.clock_policy.specs.declared.key.Key.{Key}
 use Rattle.held_machine.specs.Admitting.{AdmitsHeld, RefusesHeld}
 use Rattle.held_machine.specs.Answers.{IsOther}
 use Rattle.held_machine.specs.DeskValue.{DeskValue}
-use Rattle.held_process.specs.HeldValue.{HeldValue}
-use Rattle.held_process.specs.Running.{LoadsHeld, DoesNotLoadHeld}
+use Rattle.held_machine.specs.HeldValue.{HeldValue}
+use Rattle.held_machine.specs.Running.{LoadsHeld, DoesNotLoadHeld}
 use Rattle.machine_sides.specs.Admitting.{AdmissionValue, is_resident_at}
 use Rattle.machine_sides.specs.declared.admission.NotAdmitted.{NotAdmitted}
 use Rattle.machine_sides.specs.declared.admission.NotAdmitted.TheVariants.{NotAbsent}

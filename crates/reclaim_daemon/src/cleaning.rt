@@ -4,12 +4,12 @@
 //! Where a process is not the one of its lock's number no call is made, and the machine is not sound from then on.
 
 ghost use Rattle.std.specs.Prelude.{◌≡◌, ◌≤◌, ◌↔◌, IfSome, IsNone};
-ghost use Rattle.held_process.specs.Cleaning.{CopiesWhere};
+ghost use Rattle.held_machine.specs.Cleaning.{CopiesWhere};
 
 use crate::holds::Change;
 use crate::shared::Shared;
 use clock_policy::{Clock, Key};
-use held_process::Held;
+use held_machine::Held;
 use machine_sides::{CopyBar, Copying};
 use std::snapshot::Snapshot;
 use std::sync::Wait;

@@ -4,14 +4,14 @@
 
 ghost use Rattle.std.specs.Prelude.{◌≡◌, ◌≤◌, ◌↔◌, nat_le, IfSome, IsNone, Some};
 ghost use Rattle.std.specs.Sync.Mutex.{mutex_guard_value};
-ghost use Rattle.held_process.specs.Cleaning.{BeginsWhere, CleansWhere};
-ghost use Rattle.held_process.specs.Holding.{RunsWhere, NoticesWhere, KillsNumberWhere};
-ghost use Rattle.held_process.specs.Holding.{KillsSpentWhere, PressesWhere};
+ghost use Rattle.held_machine.specs.Cleaning.{BeginsWhere, CleansWhere};
+ghost use Rattle.held_machine.specs.Holding.{RunsWhere, NoticesWhere, KillsNumberWhere};
+ghost use Rattle.held_machine.specs.Holding.{KillsSpentWhere, PressesWhere};
 
 use crate::holds::Change;
 use crate::process_locks::ProcessLocks;
 use flat_machine::KillCause;
-use held_process::{Begun, Held};
+use held_machine::{Begun, Held};
 use page_store::{Cleaned, CleanedJob};
 use space_core::Slice;
 use std::snapshot::Snapshot;

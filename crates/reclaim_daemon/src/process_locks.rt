@@ -12,7 +12,7 @@ ghost use Rattle.status_cell.specs.ViewerValue.{viewer_value};
 
 use elf_image::Image;
 use hart_signals::Signals;
-use held_process::Held;
+use held_machine::Held;
 use machine_limits::MOST_PROCESSES;
 use status_cell::Viewer;
 use std::alloc::{AllocError, Global};

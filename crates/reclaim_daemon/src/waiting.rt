@@ -4,7 +4,7 @@ use crate::process_locks::ProcessLocks;
 use crate::shared::Shared;
 use clock_policy::Clock;
 use hart_signals::{Bell, PageWait, Runner};
-use held_process::Held;
+use held_machine::Held;
 use machine_limits::MOST_HARTS;
 use space_core::Space;
 use std::sync::Wait;

@@ -11,7 +11,7 @@ use crate::shared::Shared;
 use crate::waiting::Frames;
 use crate::writing_out::write_slot;
 use clock_policy::{Clock, Key};
-use held_process::Begun;
+use held_machine::Begun;
 use machine_sides::Copying;
 use std::sync::Wait;
 use std::sync::ledger::Ledger;

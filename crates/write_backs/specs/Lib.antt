@@ -1,2 +1,0 @@
-pub mod WriteBacks
-pub mod WrittenBack

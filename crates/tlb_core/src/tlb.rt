@@ -47,7 +47,9 @@ impl Model for Tlb {
 
 /// A cache of no entry.
 impl Default for Tlb {
-    fn default() -> Tlb {
+    fn default() -> Tlb
+        ensures { result ≡ [] }
+    {
         Tlb::new()
     }
 }

@@ -1,5 +1,7 @@
 //! One cached translation: page, place, frame and rights, with its dirty and doomed marks.
 
+ghost use Rattle.std.specs.Prelude.{◌≡◌, false};
+
 use bitflags::Flags;
 use page_memory::Rights;
 
@@ -22,7 +24,10 @@ pub struct Translation {
 
 /// What is in a place that no entry has.
 impl Default for Translation {
-    fn default() -> Translation {
+    fn default() -> Translation
+        ensures { result ≡ record { page = 0; place = 0; frame = 0; rights = record { 0 = 0 };
+            dirty = false; doomed = false } }
+    {
         Translation {
             page: 0,
             place: 0,

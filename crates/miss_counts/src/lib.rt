@@ -15,7 +15,7 @@ mod row;
 mod rows;
 mod stages;
 mod table_size;
-mod write_back_rows;
+mod write_back_table;
 
 pub use any_player::AnyPlayer;
 pub use counts::{PolicyCount, PolicyCounts, rows_of};
@@ -30,4 +30,4 @@ pub use policy_set::PolicySet;
 pub use rows::Rows;
 pub use stages::{Quiet, Stage, StageListener};
 pub use table_size::{FootprintPart, TableSize, frames_for, frames_for_string, has_part};
-pub use write_back_rows::write_back_rows;
+pub use write_back_table::write_back_rows;

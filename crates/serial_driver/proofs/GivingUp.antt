@@ -20,14 +20,16 @@ use Rattle.serial_driver.specs.Limit.{ComeInTurn, PlaysWith}
 use Rattle.serial_driver.specs.Nexts.{is_step, IsNext}
 use Rattle.serial_driver.specs.Owing.{Duty, Pays, ArePaid, collect_owes, duty_after, duty_with, is_absent, is_damaged, is_device, is_dirty, is_only_owed, is_full, is_mapped, is_no_memory, is_out_of_memory, load_owes, next_owed, save_owes, step_owes}
 use Rattle.serial_driver.specs.Patience.{IsPatient, is_served, spent_after, spent_with, tried_after, tried_with}
-use Rattle.serial_driver.specs.Serving.{is_giving_up, is_paging, owes_pages, GivesUpFor, GivesUpFrom, GoesTooFar, IsServing, Lasts, Proceeds}
+use Rattle.serial_driver.specs.Serving.{is_giving_up, is_paging, owes_pages, GivesUpFor, GivesUpFrom, IsServing, Lasts, PlaysFrom, Proceeds}
 use Rattle.serial_driver.specs.Serving.GivesUpFor.{ends, over, refuses}
 use Rattle.serial_driver.specs.Turning.{IsInTurn, MayNotice, MayStep, Phase, Turn, Begins, Clears, Rests, Runs as RunsOn, Waits, clearing, noticed_in, paged_in, swept_turn, waiting}
 use Rattle.serial_driver.specs.declared.patience.Patience.{Patience}
+use Rattle.serial_driver.specs.declared.serving.ServedStep.{ServedStep}
+use Rattle.serial_driver.specs.declared.serving.ServedStep.TheVariants as served
 use Rattle.serial_driver.specs.declared.turns.Next.{Next}
 use Rattle.serial_driver.specs.declared.turns.Next.TheVariants.{Steps, Event as Alone}
 use Rattle.serial_driver.proofs.InTurn.{in_turn_none, in_turn_on, in_turn_one, in_turn_runs}
-use Rattle.serial_driver.proofs.Limited.{plays_one}
+use Rattle.serial_driver.proofs.Limited.{plays_more, plays_one}
 use Rattle.serial_driver.proofs.Owed.{duty_on, paid_on}
 use Rattle.serial_driver.proofs.Tried.{spent_on}
 
@@ -176,8 +178,7 @@ module _ {S : Type 0} (held : S → List ℕ) (honest : Type 0) (failures : S �
   pub gives_none : (tried : ℕ → ℕ) (duty : Duty) (spent : Option ℕ) (core : CoreValue S) → GivesUpFor held honest failures duty spent [] core → GivesUpFrom held honest failures most tried duty spent core core
   unfolding ArePaid duty_after spent_after
   gives_none tried duty spent core why = record {
-    count = 0;
-    plays = record { events = []; replies = []; in_turn = in_turn_none held honest failures duty core; many = refl; unlimited = All-nil _; paid = tt {0} };
+    run = record { count = 0; plays = record { events = []; replies = []; in_turn = in_turn_none held honest failures duty core; many = refl; unlimited = All-nil _; paid = tt {0} } };
     why = why;
   }
 
@@ -186,14 +187,16 @@ module _ {S : Type 0} (held : S → List ℕ) (honest : Type 0) (failures : S �
       → GivesUpFrom held honest failures most tried duty spent old new
   unfolding ArePaid duty_after spent_after
   gives_one tried duty spent old new event answer applies unlimited pays in_turn why = record {
-    count = 1;
-    plays = record {
-      events = event ∷ [];
-      replies = answer ∷ [];
-      in_turn = in_turn_one held honest failures duty event answer old new applies in_turn;
-      many = refl;
-      unlimited = All-cons Unlimited event [] unlimited (All-nil _);
-      paid = (pays, tt {0});
+    run = record {
+      count = 1;
+      plays = record {
+        events = event ∷ [];
+        replies = answer ∷ [];
+        in_turn = in_turn_one held honest failures duty event answer old new applies in_turn;
+        many = refl;
+        unlimited = All-cons Unlimited event [] unlimited (All-nil _);
+        paid = (pays, tt {0});
+      };
     };
     why = why;
   }
@@ -212,28 +215,42 @@ module _ {S : Type 0} (held : S → List ℕ) (honest : Type 0) (failures : S �
   gives_behind tried duty midway spent first old between new middle a b =
       let same = many_replies a.plays.events a.plays.replies old between (in_turn_runs held honest failures duty a.plays.events a.plays.replies old between a.plays.in_turn) in
       let later : ℕ → ℕ = λ number. tried_after number a.plays.events a.plays.replies (tried number) in
+      let last = b.run.plays in
       record {
-        count = first + b.count;
-        plays = record {
-          events = a.plays.events ++ b.plays.events;
-          replies = a.plays.replies ++ b.plays.replies;
-          in_turn = in_turn_on held honest failures duty a.plays.events b.plays.events a.plays.replies b.plays.replies old between new a.plays.in_turn
-              (subst (λ (d : Duty). ComeInTurn held honest failures d b.plays.events b.plays.replies between new) a.owes b.plays.in_turn);
-          many = length-append a.plays.events b.plays.events ∙ omega (arith, a.plays.many, b.plays.many);
-          unlimited = All-append Unlimited a.plays.events b.plays.events a.plays.unlimited b.plays.unlimited;
-          paid = paid_on most tried duty spent a.plays.events b.plays.events a.plays.replies b.plays.replies same a.plays.paid
-              (subst (λ (s : Option ℕ). ArePaid most later (duty_after a.plays.events a.plays.replies duty) s b.plays.events b.plays.replies) a.spends
-              (subst (λ (d : Duty). ArePaid most later d middle.spent b.plays.events b.plays.replies) a.owes b.plays.paid));
+        run = record {
+          count = first + b.run.count;
+          plays = record {
+            events = a.plays.events ++ last.events;
+            replies = a.plays.replies ++ last.replies;
+            in_turn = in_turn_on held honest failures duty a.plays.events last.events a.plays.replies last.replies old between new a.plays.in_turn
+                (subst (λ (d : Duty). ComeInTurn held honest failures d last.events last.replies between new) a.owes last.in_turn);
+            many = length-append a.plays.events last.events ∙ omega (arith, a.plays.many, last.many);
+            unlimited = All-append Unlimited a.plays.events last.events a.plays.unlimited last.unlimited;
+            paid = paid_on most tried duty spent a.plays.events last.events a.plays.replies last.replies same a.plays.paid
+                (subst (λ (s : Option ℕ). ArePaid most later (duty_after a.plays.events a.plays.replies duty) s last.events last.replies) a.spends
+                (subst (λ (d : Duty). ArePaid most later d middle.spent last.events last.replies) a.owes last.paid));
+          };
         };
-        why = why_behind _ _ _ _ a.plays.replies b.plays.replies new
-            (ap (duty_after b.plays.events b.plays.replies) a.owes ∙ sym (duty_on duty a.plays.events b.plays.events a.plays.replies b.plays.replies same))
-            (ap (spent_after most later b.plays.events b.plays.replies) a.spends ∙ sym (spent_on most tried a.plays.events b.plays.events a.plays.replies b.plays.replies spent same))
+        why = why_behind _ _ _ _ a.plays.replies last.replies new
+            (ap (duty_after last.events last.replies) a.owes ∙ sym (duty_on duty a.plays.events last.events a.plays.replies last.replies same))
+            (ap (spent_after most later last.events last.replies) a.spends ∙ sym (spent_on most tried a.plays.events last.events a.plays.replies last.replies spent same))
             b.why;
       }
 
-  pub goes_too_far : (tried : ℕ → ℕ) (duty left : Duty) (spent : Option ℕ) (count : ℕ) (old new : CoreValue S) (patience : Patience) → PlaysWith held honest failures most tried duty spent count old new patience left → count + 1 ≡ 2 ^ 64
-      → GoesTooFar held honest failures most tried duty spent old new
-  goes_too_far tried duty left spent count old new patience plays many = record { count = count; plays = plays.plays; many = many }
+  plays_both : (tried : ℕ → ℕ) (duty midway left : Duty) (spent : Option ℕ) (first : ℕ) (old between new : CoreValue S) (middle patience : Patience) → (a : PlaysWith held honest failures most tried duty spent first old between middle midway)
+      → PlaysWith held honest failures most (λ number. tried_after number a.plays.events a.plays.replies (tried number)) midway middle.spent 1 between new patience left → PlaysFrom held honest failures most tried duty spent old new
+  plays_both tried duty midway left spent first old between new middle patience a b =
+      record { count = first + 1; plays = (plays_more held honest failures most tried duty midway left spent first 1 (first + 1) old between new middle patience a b refl).plays }
+
+  -- the events of a run up to the one that settles the instruction, or with which it is given up
+  pub plays_settled : (process hart : ℕ) (what : ServedStep) (tried : ℕ → ℕ) (duty midway left : Duty) (spent : Option ℕ) (first : ℕ) (old between new : CoreValue S) (middle patience : Patience)
+      → (a : PlaysWith held honest failures most tried duty spent first old between middle midway)
+      → Proceeds held honest failures process hart (Some what) most (λ number. tried_after number a.plays.events a.plays.replies (tried number)) midway middle.spent between new patience left
+      → PlaysFrom held honest failures most tried duty spent old new
+  plays_settled process hart served.Ran tried duty midway left spent first old between new middle patience a b = plays_both tried duty midway left spent first old between new middle patience a b
+  plays_settled process hart served.Full tried duty midway left spent first old between new middle patience a b = plays_both tried duty midway left spent first old between new middle patience a b
+  plays_settled process hart served.NoMemory tried duty midway left spent first old between new middle patience a b = plays_both tried duty midway left spent first old between new middle patience a b
+  plays_settled process hart served.Absent tried duty midway left spent first old between new middle patience a b = (gives_behind tried duty midway spent first old between new middle a b).run
 
   -- one event, behind which the instruction is served on
   pub proceeds_on : (process hart : ℕ) (tried : ℕ → ℕ) (duty left : Duty) (spent : Option ℕ) (old new : CoreValue S) (patience : Patience) (event : Event) (answer : Reply) → Applies held honest failures event old new answer

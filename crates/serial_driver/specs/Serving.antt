@@ -79,35 +79,36 @@ module _ {S : Type 0} (held : S → List ℕ) (honest : Type 0) (failures : S �
     refuses : (before : List Reply) (why : EventRefusal) → replies ≡ before ++ Refused why ∷ [] → why ≢ refusal.NoMemory → GivesUpFor duty spent replies core
     over : ((number : ℕ) → HasEnded core number) → GivesUpFor duty spent replies core
 
-  -- so many events of a run, from what is owed, behind which an instruction is given up
-  pub record GivesUpFrom (most : ℕ) (tried : ℕ → ℕ) (duty : Duty) (spent : Option ℕ) (old new : CoreValue S) : Type 0 where
+  -- so many events of a run, from what is owed
+  pub record PlaysFrom (most : ℕ) (tried : ℕ → ℕ) (duty : Duty) (spent : Option ℕ) (old new : CoreValue S) : Type 0 where
     pub count : ℕ
     pub plays : PlaysOn held honest failures most tried duty spent count old new
-    pub why : GivesUpFor (duty_after plays.events plays.replies duty) (spent_after most tried plays.events plays.replies spent) plays.replies new
 
-  -- What comes of one event of a run: the instruction is served on, or given up.
+  -- the same, behind which an instruction is given up
+  pub record GivesUpFrom (most : ℕ) (tried : ℕ → ℕ) (duty : Duty) (spent : Option ℕ) (old new : CoreValue S) : Type 0 where
+    pub run : PlaysFrom most tried duty spent old new
+    pub why : GivesUpFor (duty_after run.plays.events run.plays.replies duty) (spent_after most tried run.plays.events run.plays.replies spent) run.plays.replies new
+
+  -- the events of a run of a hart, which begins with its instruction
+  abbrev pub PlaysHart : ℕ → ℕ → CoreValue S → CoreValue S → Type 0
+  PlaysHart process hart old new = PlaysFrom (tries_per_frame * old.pager.pager.size) (λ _. 0) (serving process hart) None old new
+
+  -- What comes of one event of a run: the instruction is served on, settled, or given up.
   abbrev pub Proceeds : ℕ → ℕ → Option ServedStep → ℕ → (ℕ → ℕ) → Duty → Option ℕ → CoreValue S → CoreValue S → Patience → Duty → Type 0
   Proceeds process hart None most tried duty spent old new patience left =
       PlaysWith held honest failures most tried duty spent 1 old new patience left × (IsServing process hart left.turn × (owes_pages left.owed ≡ true))
-  Proceeds process hart (Some served.Ran) most tried duty spent old new patience left = ⊤
+  Proceeds process hart (Some served.Ran) most tried duty spent old new patience left = PlaysWith held honest failures most tried duty spent 1 old new patience left
   Proceeds process hart (Some served.Absent) most tried duty spent old new patience left = GivesUpFrom most tried duty spent old new
-  Proceeds process hart (Some served.Full) most tried duty spent old new patience left = ⊤
-  Proceeds process hart (Some served.NoMemory) most tried duty spent old new patience left = ⊤
-
-  -- as many events of a run as there may be
-  pub record GoesTooFar (most : ℕ) (tried : ℕ → ℕ) (duty : Duty) (spent : Option ℕ) (old new : CoreValue S) : Type 0 where
-    pub count : ℕ
-    pub plays : PlaysOn held honest failures most tried duty spent count old new
-    pub many : count + 1 ≡ 2 ^ 64
+  Proceeds process hart (Some served.Full) most tried duty spent old new patience left = PlaysWith held honest failures most tried duty spent 1 old new patience left
+  Proceeds process hart (Some served.NoMemory) most tried duty spent old new patience left = PlaysWith held honest failures most tried duty spent 1 old new patience left
 
   -- A hart's instruction is given up where a run of it alone would end its process for a page, or can't go on; or once 2^64 - 1 events
   -- have happened.
   abbrev pub GivesUp : ℕ → ℕ → CoreValue S → CoreValue S → Type 0
   GivesUp process hart old new =
       GivesUpFrom (tries_per_frame * old.pager.pager.size) (λ _. 0) (serving process hart) None old new
-      ⊎ GoesTooFar (tries_per_frame * old.pager.pager.size) (λ _. 0) (serving process hart) None old new
+      ⊎ ((run : PlaysHart process hart old new) × (run.count + 1 ≡ 2 ^ 64))
 
-module _ {S : Type 0} (held : S → List ℕ) (honest : Type 0) (failures : S → ℕ) where
   -- events that serve a hart lead from one machine to the other, and no instruction of any process ran
   pub record BringsIn (process hart : ℕ) (old new : CoreValue S) : Type 0 where
     pub events : List Event

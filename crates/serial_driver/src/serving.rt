@@ -8,7 +8,7 @@ ghost use Rattle.serial_driver.specs.Nexts.{is_step};
 ghost use Rattle.serial_driver.specs.Owing.{Pays, duty_with, is_absent, is_full, next_owed};
 ghost use Rattle.serial_driver.specs.Patience.{IsPatient, spent_with, tried_with};
 ghost use Rattle.serial_driver.specs.Serving.{is_paging, owes_pages, GivesUp, Goes, IsServing};
-ghost use Rattle.serial_driver.specs.Serving.{Proceeds, Serves};
+ghost use Rattle.serial_driver.specs.Serving.{PlaysHart, Proceeds, Serves};
 ghost use Rattle.serial_driver.specs.Turning.{IsInTurn};
 ghost use Rattle.serial_driver.specs.TurnsDuty.{duty_of, stage_owes, turn_of};
 
@@ -46,6 +46,7 @@ pub fn serve_step<L: Ledger, S: SwapSlot, C: Clock>(
     hart: u32,
 ) -> ServedStep
     ensures serves { Serves S.content S.honest S.failures process hart result core.old core.new }
+    ensures plays { PlaysHart S.content S.honest S.failures process hart core.old core.new }
     ensures given_up { result ≡ ServedStep.Absent →
         GivesUp S.content S.honest S.failures process hart core.old core.new }
 {

@@ -25,8 +25,14 @@ pub struct Translation {
 /// What is in a place that no entry has.
 impl Default for Translation {
     fn default() -> Translation
-        ensures { result ≡ record { page = 0; place = 0; frame = 0; rights = record { 0 = 0 };
-            dirty = false; doomed = false } }
+        ensures { result ≡ record {
+          page = 0;
+          place = 0;
+          frame = 0;
+          rights = record { 0 = 0 };
+          dirty = false;
+          doomed = false;
+        } }
     {
         Translation {
             page: 0,

@@ -3,6 +3,7 @@ use Rattle.std.proofs.Common.{inr, sym, ◌∙◌}
 use Rattle.serial_driver.proofs.Bringing.{gives_up, gives_up_after, no_memory, paging_waits}
 use Rattle.serial_driver.specs.TurnsDuty.{duty_of}
 use Rattle.serial_driver.proofs.GivingUp.{ending_gives_up, paging_on, refused_gives_up}
+use Rattle.serial_driver.proofs.Limited.{plays_one}
 use Rattle.serial_driver.proofs.serving.bring.Goals as goal
 
 pub returns-then-not-is_paging-clause-goes : goal.returns-then-not-is_paging-clause-goes
@@ -35,3 +36,8 @@ pub returns-else-is_served-clause-proceeds : goal.returns-else-is_served-clause-
 returns-else-is_served-clause-proceeds g c = λ most tried patient.
     refused_gives_up g.S.SwapSlot.content g.S.SwapSlot.honest g.S.SwapSlot.failures most tried _ c.args.patience.now.spent c.args.core.now c.happen-reply.new.core c.args.event _ c.happen-reply.ensures.happens.applies c.requires.unlimited c.requires.pays c.requires.in_turn
     (sym c.is_out_of_memory.ensures ∙ c.if-is_out_of_memory.false) (sym c.is_served.ensures ∙ c.if-is_served.false)
+
+pub returns-then-is_out_of_memory-clause-proceeds : goal.returns-then-is_out_of_memory-clause-proceeds
+returns-then-is_out_of_memory-clause-proceeds g c = λ most tried patient.
+    plays_one g.S.SwapSlot.content g.S.SwapSlot.honest g.S.SwapSlot.failures most tried _ _ c.args.patience.now.spent c.args.core.now c.happen-reply.new.core c.happen-reply.new.patience c.args.event _ c.happen-reply.ensures.happens.applies
+    c.requires.unlimited (c.happen-reply.ensures.tries most tried patient) (c.happen-reply.ensures.spent most tried patient) c.requires.pays c.requires.in_turn c.happen-reply.ensures.owes

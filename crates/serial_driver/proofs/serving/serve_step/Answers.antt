@@ -6,7 +6,7 @@ use Rattle.serial_driver.specs.Serving.{owes_pages, serving, IsServing, Proceeds
 use Rattle.serial_driver.specs.TurnsDuty.{duty_of}
 use Rattle.serial_driver.specs.declared.serving.ServedStep.{ServedStep}
 use Rattle.serial_driver.proofs.Bringing.{brings_none, brings_on, serves_on}
-use Rattle.serial_driver.proofs.GivingUp.{gives_behind, goes_too_far}
+use Rattle.serial_driver.proofs.GivingUp.{gives_behind, plays_settled}
 use Rattle.serial_driver.proofs.Limited.{plays_more, plays_none}
 use Rattle.serial_driver.proofs.serving.serve_step.Goals as goal
 
@@ -61,4 +61,15 @@ pub returns-clause-given_up : goal.returns-clause-given_up
 returns-clause-given_up g c absent =
     let sum = c.events.invariant.plays.1.0 in
     let all : c.events.invariant.plays.0 ≡ 2 ^ 64 - 1 = omega (arith, sum, c.events-test.false) in
-    inr (goes_too_far g.S.SwapSlot.content g.S.SwapSlot.honest g.S.SwapSlot.failures _ _ _ _ _ c.events.invariant.plays.0 c.args.core.now c.events.core c.events.patience c.events.invariant.plays.1.1 (ap (λ n. n + 1) all))
+    inr (record { count = c.events.invariant.plays.0; plays = c.events.invariant.plays.1.1.plays }, ap (λ n. n + 1) all)
+
+pub returns-in-Some-clause-plays : goal.returns-in-Some-clause-plays
+returns-in-Some-clause-plays g c =
+    let most : ℕ = tries_per_frame * c.args.core.now.pager.pager.size in
+    let before = c.events.invariant.plays.1.1 in
+    let tried : ℕ → ℕ = λ number. tried_after number before.plays.events before.plays.replies 0 in
+    plays_settled g.S.SwapSlot.content g.S.SwapSlot.honest g.S.SwapSlot.failures most c.args.process c.args.hart c.in-Some.served (λ _. 0) _ _ (duty_of c.serve_next.new.turns) None c.events.invariant.plays.0 c.args.core.now c.events.core c.serve_next.new.core c.events.patience
+    c.serve_next.new.patience before (c.in-Some.ensures.proceeds most tried before.patient)
+
+pub returns-clause-plays : goal.returns-clause-plays
+returns-clause-plays g c = record { count = c.events.invariant.plays.0; plays = c.events.invariant.plays.1.1.plays }

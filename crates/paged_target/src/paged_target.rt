@@ -1,10 +1,13 @@
 //! The debugger's target on paged memory: one process on its own machine, whose steps bring in their pages.
 
-ghost use Rattle.std.specs.Prelude.{◌≡◌, ◌+◌, ◌<◌, ◌≤◌, [], ◌∷◌, false, true, None, Some, IfOk, IsSome, slice_get};
+ghost use Rattle.std.specs.Prelude.{◌≡◌, ◌+◌, ◌<◌, ◌≤◌, ⊤, [], ◌∷◌, false, true, None, Some, IfOk, IsSome, slice_get};
 ghost use Rattle.flat_machine.specs.Process.{opening};
 ghost use Rattle.space_core.specs.StandsFor.{own_ending};
 ghost use Rattle.elf_image.specs.Start.{start_of};
+ghost use Rattle.machine_core.specs.Applying.{Applies};
 ghost use Rattle.machine_core.specs.Opening.{MachineBegins};
+ghost use Rattle.machine_core.specs.declared.event.Event.TheVariants.{Kill};
+ghost use Rattle.machine_core.specs.declared.event.Reply.{Reply};
 ghost use Rattle.debug_core.specs.Limits.{CannotRecord, KeepsRoom};
 ghost use Rattle.paged_target.specs.GivenUp.{IsGivenUp};
 ghost use Rattle.paged_target.specs.Intact.{IsIntact, IsUnkilled};
@@ -85,6 +88,8 @@ impl<L: Ledger, C: Clock> PagedTarget<L, C> {
         ensures flat { flat_at self.new.core ≡ flat_at self.old.core }
         ensures kept { KeepsRoom (LacksOn self.old.core) (LacksOn self.new.core) }
         ensures full { self.new.full ≡ true }
+        ensures ended { (reply : Reply) × Applies (λ slot. slot) ⊤ (λ slot. 0)
+            (Kill 0 KillCause.ScheduleFull) self.old.core self.new.core reply }
     {
         self.core.faithful();
         self.core.apply(Event::Kill {

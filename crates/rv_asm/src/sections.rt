@@ -62,7 +62,6 @@ impl Sections {
     }
 
     /// The sections with what one more item of the program puts there.
-    #[tactic(auto, unfolding(crate::specs::SecondPass::put))]
     pub(crate) fn with_item(self, program: &Program<'_>, item: &Item<'_>) -> Result<Self, AsmError>
         requires { length self.text ≤ 65536 }
         ensures sections { IfOk result (λ sections. put program.now.items self item.now ≡

@@ -1,6 +1,11 @@
 -- The ending adds nothing to what is recorded, and gives no page back.
 use Rattle.std.proofs.Common.{◌≡◌, [], subst}
+use Rattle.std.specs.Prelude.{⊤}
 use Rattle.debug_core.specs.Limits.{KeepsRoom}
+use Rattle.flat_machine.specs.declared.end.KillCause.TheVariants as cause
+use Rattle.machine_core.specs.Applying.{Applies}
+use Rattle.machine_core.specs.declared.event.Event.TheVariants.{Kill}
+use Rattle.machine_core.specs.declared.event.Reply.{Reply}
 use Rattle.paged_target.specs.Lacks.{LacksOn}
 use Rattle.paged_target.specs.Shown.{flat_at, TargetValue}
 use Rattle.paged_target.proofs.Showing.{shows_flat}
@@ -30,3 +35,8 @@ returns-clause-kept g c =
     let shows = shows_flat _ _ c.self.inside.core (tt {0}) c.faithful.ensures c.self.invariant.there in
     subst (λ (t : TargetValue). KeepsRoom (LacksOn t.core) (LacksOn c.apply.new.self)) c.self.view_is
     (remains_room _ c.self.inside.core c.apply.new.self shows (c.apply.ensures.invisible.recorded 0 shows.side shows.found))
+
+pub returns-clause-ended : goal.returns-clause-ended
+returns-clause-ended g c =
+    subst (λ (t : TargetValue). (reply : Reply) × Applies (λ slot. slot) ⊤ (λ slot. 0) (Kill 0 cause.ScheduleFull) t.core c.apply.new.self reply) c.self.view_is
+    (c.apply.result, c.apply.ensures.applies)

@@ -1,6 +1,6 @@
 //! The commands and what each takes.
 
-ghost use Rattle.std.specs.Prelude.{◌≡◌, IfOk, false};
+ghost use Rattle.std.specs.Prelude.{◌≡◌, IfOk, codes, false};
 ghost use Rattle.clap.specs.Simple.{App, app_of, new_app, with_rule, with_subcommand};
 ghost use Rattle.command_line.specs.Reads.{Reads};
 ghost use Rattle.clap.specs.Walk.{rule_of};
@@ -78,16 +78,38 @@ fn drive<'a>(alloc: Global) -> Result<Command<'a>, AllocError>
 fn run<'a>(alloc: Global) -> Result<Command<'a>, AllocError>
     ensures { Reads run_app result }
 {
-    let command = sized(alloc, named(alloc, "run"));
-    let command = with_option(alloc, command, "workers");
-    let command = with_option(alloc, command, "slice");
-    let command = with_option(alloc, command, "limit");
+    let command = paced(alloc, sized(alloc, named(alloc, "run")));
     let command = with_option(alloc, command, "input");
     let command = with_option(alloc, command, "swap");
+    with_files(alloc, flagged(alloc, command), "image")
+}
+
+/// The command with the options that say who runs, and how long.
+fn paced<'a>(
+    alloc: Global,
+    command: Result<Command<'a>, AllocError>,
+) -> Result<Command<'a>, AllocError>
+    ensures { (app : App) → Reads app command.entry → Reads (with_rule (with_rule (with_rule app
+        (option_rule (codes "workers"))) (option_rule (codes "slice"))) (option_rule (codes "limit")))
+        result }
+{
+    let command = with_option(alloc, command, "workers");
+    let command = with_option(alloc, command, "slice");
+    with_option(alloc, command, "limit")
+}
+
+/// The command with the flags of a run.
+fn flagged<'a>(
+    alloc: Global,
+    command: Result<Command<'a>, AllocError>,
+) -> Result<Command<'a>, AllocError>
+    ensures { (app : App) → Reads app command.entry → Reads (with_rule (with_rule (with_rule app
+        (flag_rule (codes "serial"))) (flag_rule (codes "status"))) (flag_rule (codes "ahead")))
+        result }
+{
     let command = with_flag(alloc, command, "serial");
     let command = with_flag(alloc, command, "status");
-    let command = with_flag(alloc, command, "ahead");
-    with_files(alloc, command, "image")
+    with_flag(alloc, command, "ahead")
 }
 
 fn debug<'a>(alloc: Global) -> Result<Command<'a>, AllocError>

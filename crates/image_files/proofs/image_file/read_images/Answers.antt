@@ -1,5 +1,4 @@
-use Rattle.std.proofs.Common.{◌≡◌, ◌∷◌, ◌++◌, [], map, arith}
-use Rattle.std.proofs.lemmas.Grind.{common_steps}
+use Rattle.std.proofs.Common.{◌≡◌, ◌∷◌, ◌++◌, [], map}
 use Rattle.std.proofs.lemmas.Result.{err_from_is_err_and}
 use Rattle.elf_image.specs.Start.{start_of}
 use Rattle.image_files.proofs.Given.{none_read, one_read, all_read, stops_at, stops_scant}
@@ -11,7 +10,7 @@ loop-name-init g c =
 
 pub loop-name-preserved : goal.loop-name-preserved
 loop-name-preserved g c =
-    let pushed : c.push.new.self.items ≡ c.loop-name.processes.items ++ (c.in_ok-image.image, c.new.result) ∷ [] = grind (arith, common_steps) in
+    let pushed : c.push.new.self.items ≡ c.loop-name.processes.items ++ (c.in_ok-image.image, c.new.result) ∷ [] = rw (c.is_err.ensures.negation, c.if-is_err.false) at c.push.ensures.items in
     one_read g.R.Folder.gives (λ s. s.now) (λ start. start_of start.0 start.1.items) c.args.images.now c.loop-name.name-index _ c.loop-name.processes.items c.push.new.self.items
     (c.in_ok-image.image, c.new.result) c.loop-name-test.true c.loop-name.invariant c.in_ok-image.ensures.image c.new.ensures.items pushed
 

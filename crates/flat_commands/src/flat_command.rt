@@ -21,7 +21,8 @@ pub fn run_flat<'a, R: Folder + AllocGlobal, W: Write>(
     request: &FlatRequest<'a>,
     out: &mut W,
 ) -> Result<u8, Fault<'a>>
-    ensures { IfOk result (FlatAsAsked R.gives request.now (W.contents out.old) (W.contents out.new)) }
+    ensures { IfOk result (FlatAsAsked R.gives request.now
+        (W.contents out.old) (W.contents out.new)) }
 {
     let mut process = begin(rt, request)?;
     run_to_end(&mut process, u64::from(request.limit), out)

@@ -1,4 +1,4 @@
--- What a run on flat memory is told to have come to, by what its parts say.
+-- What a run on flat memory came to, by what its parts say.
 use Rattle.std.proofs.Common.{◌≡◌, ℕ, ◌≤◌, ◌<◌, List, Option, IsSome, subst}
 use Rattle.std.specs.Prelude.{Some, Result, Ok, Err, IfOk, OnOk}
 use Rattle.std.specs.Io.KnownBytes.{Appends}
@@ -18,5 +18,5 @@ pub ended : {E : Type 0} (limit steps : ℕ) (process flat : Process) (out out' 
     → (turn : ℕ) × (by_turns steps (first_turn process) process ≡ Some (turn, flat)) → steps ≤ limit → (steps < limit → IsSome flat.ending)
     → OnOk r (Appends out out' (process_text 0 flat.environment.output (ending_of flat.ending) steps)) → IfOk r (λ status. status ≡ exit_status (ending_of flat.ending))
     → IfOk r (RunsToEnd limit process out out')
-ended limit steps process flat out out' (Ok status) ran within stops told is = record { steps = steps; flat = flat; ran = ran; within = within; ended = stops; told = told; status_is = is }
-ended limit steps process flat out out' (Err why) ran within stops told is = tt
+ended limit steps process flat out out' (Ok status) ran within stops written is = record { steps = steps; flat = flat; ran = ran; within = within; ended = stops; written = written; status_is = is }
+ended limit steps process flat out out' (Err why) ran within stops written is = tt

@@ -18,7 +18,7 @@ pub record RunsToEnd (limit : ℕ) (process : Process) (old new : Option (List �
   pub ran : (turn : ℕ) × (by_turns steps (first_turn process) process ≡ Some (turn, flat))
   pub within : steps ≤ limit
   pub ended : steps < limit → IsSome flat.ending
-  pub told : Appends old new (process_text 0 flat.environment.output (ending_of flat.ending) steps)
+  pub written : Appends old new (process_text 0 flat.environment.output (ending_of flat.ending) steps)
   pub status_is : status ≡ exit_status (ending_of flat.ending)
 
 module _ (gives : List ℕ → List ℕ → Type 0) where

@@ -30,8 +30,8 @@ pub fn run_flat<'a, R: Folder + AllocGlobal, W: Write>(
 
 /// The process of an image and an input.
 ///
-/// It stands on the heap. On the stack it could stand a multiple of 4096 bytes from what the inner loop writes on its own frame at
-/// each instruction, and processors that look at the lower bits of an address first let a read of the one wait for the other.
+/// It is on the heap. On the stack it could be a multiple of 4096 bytes from what the inner loop writes on its own frame at each
+/// instruction. Processors that first compare the lower bits of addresses would then let a read of one wait for the other.
 fn begin<'a, R: Folder + AllocGlobal>(
     rt: &R,
     request: &FlatRequest<'a>,

@@ -1,8 +1,8 @@
-//! What stands under the locks of a machine, and the calls that are made on it while they are held: a process with the writer of its counts,
-//! the pager, and all together once the locks are no more.
+//! The values in the locks of a machine, and the calls on them while the locks are held: a process with the writer of its counts, and the
+//! pager. `Parts` is all of them together after the locks.
 //!
-//! Each call on a process is one of the sides', and keeps that what was published last is how far the process has come. No lock is known
-//! of here.
+//! Each call on a process is a call of `machine_sides`. After it, what was published last is how far the process has come. No lock is
+//! used here.
 #![tactic(auto)]
 
 mod audit;

@@ -84,7 +84,7 @@ module _ {S : Type 0} (held : S → List ℕ) (honest : Type 0) (failures : S �
     pub count : ℕ
     pub plays : PlaysOn held honest failures most tried duty spent count old new
 
-  -- the same, behind which an instruction is given up
+  -- the same, after which an instruction is given up
   pub record GivesUpFrom (most : ℕ) (tried : ℕ → ℕ) (duty : Duty) (spent : Option ℕ) (old new : CoreValue S) : Type 0 where
     pub run : PlaysFrom most tried duty spent old new
     pub why : GivesUpFor (duty_after run.plays.events run.plays.replies duty) (spent_after most tried run.plays.events run.plays.replies spent) run.plays.replies new

@@ -6,7 +6,8 @@ use Rattle.clock_policy.specs.ClockPro.{is_hot, is_cold, is_shadow, hot_count, c
 use Rattle.clock_policy.proofs.LookupLaws.{length_is}
 use Rattle.page_ring.specs.Linked.{Cell}
 use Rattle.page_ring.specs.Chain.{of_kind}
-use Rattle.page_ring.specs.Index.{entries_of, number-cells, mark_number, remove_number, append_number}
+use Rattle.page_ring.specs.Index.{entries_of}
+use Rattle.page_ring.proofs.IndexLaws.{number-cells, mark_number, remove_number, append_number}
 use Rattle.clock_ring.specs.declared.counts.Counts.{Counts}
 use Rattle.clock_ring.specs.RingState.{Counted, More, HasOne}
 

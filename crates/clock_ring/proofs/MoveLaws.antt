@@ -16,9 +16,10 @@ use Rattle.clock_policy.specs.SingleMoves.{front_turned, test_hand_on}
 use Rattle.clock_policy.proofs.SingleMoveLaws.{rest_stays, without_at}
 use Rattle.clock_policy.proofs.TrimMoveLaws.{set_at}
 use Rattle.page_ring.specs.Linked.{Cell, DistinctNodes, is_at, first_at}
-use Rattle.page_ring.specs.LinkLaws.{at_self, is_at-append}
+use Rattle.page_ring.proofs.LinkLaws.{at_self, is_at-append}
 use Rattle.page_ring.specs.Chain.{of_kind}
-use Rattle.page_ring.specs.Index.{entries_of, entries-append, number-cells, mark_number, remove_number, DistinctPages}
+use Rattle.page_ring.specs.Index.{entries_of, DistinctPages}
+use Rattle.page_ring.proofs.IndexLaws.{entries-append, number-cells, mark_number, remove_number}
 use Rattle.clock_ring.specs.RingState.{entry_at_node, hand_at, Rests, Whole}
 
 -- the state with these cells and hands

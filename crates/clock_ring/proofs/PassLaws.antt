@@ -10,9 +10,10 @@ use Rattle.clock_policy.proofs.CountLaws.{IsIn}
 use Rattle.clock_policy.specs.SingleMoves.{kind_passed, front_passed, fronts_passed}
 use Rattle.page_ring.specs.declared.links.Node.{Node}
 use Rattle.page_ring.specs.Linked.{Cell}
-use Rattle.page_ring.specs.LinkLaws.{at_self}
+use Rattle.page_ring.proofs.LinkLaws.{at_self}
 use Rattle.page_ring.specs.Chain.{same, of_kind}
-use Rattle.page_ring.specs.Index.{entries_of, entries-append, DistinctPages}
+use Rattle.page_ring.specs.Index.{entries_of, DistinctPages}
+use Rattle.page_ring.proofs.IndexLaws.{entries-append}
 use Rattle.clock_ring.specs.RingState.{entry_at_node, passed_as, passed_list}
 use Rattle.clock_ring.proofs.MoveLaws.{Between, between, entry_before}
 use Rattle.clock_ring.proofs.StepLaws.{NodeAt, Made}

@@ -7,8 +7,8 @@ use Rattle.clock_policy.specs.ClockPro.{ClockState, is_of_process, removed}
 use Rattle.clock_policy.specs.SingleMoves.{removed_of, each_removed}
 use Rattle.page_ring.specs.declared.links.Node.{Node}
 use Rattle.page_ring.specs.Linked.{Cell, is_at, first_at, last_at}
-use Rattle.page_ring.specs.LinkLaws.{at_self, is_at-append}
-use Rattle.page_ring.specs.Chain.{rotates_split}
+use Rattle.page_ring.proofs.LinkLaws.{at_self, is_at-append}
+use Rattle.page_ring.proofs.ChainLaws.{rotates_split}
 use Rattle.page_ring.specs.Index.{entries_of}
 use Rattle.clock_ring.proofs.StepLaws.{NodeAt, Made}
 use Rattle.clock_ring.proofs.ScanLaws.{Middle, middle}

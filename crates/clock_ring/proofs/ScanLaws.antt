@@ -10,9 +10,10 @@ use Rattle.clock_policy.specs.declared.entry.Entry.{Entry}
 use Rattle.clock_policy.specs.ClockPro.{number, found_key, place_of, round, asks_hot, asked_entry, is_hot, is_cold, hot_count, cold_count, ClockState}
 use Rattle.page_ring.specs.declared.links.Node.{Node}
 use Rattle.page_ring.specs.Linked.{Cell, DistinctNodes, is_at, first_at, last_at}
-use Rattle.page_ring.specs.LinkLaws.{at_self}
-use Rattle.page_ring.specs.Chain.{Split, split, rotates_split}
-use Rattle.page_ring.specs.Index.{entries_of, entries-append, number-cells, remove_number, DistinctPages}
+use Rattle.page_ring.proofs.LinkLaws.{at_self}
+use Rattle.page_ring.proofs.ChainLaws.{Split, split, rotates_split}
+use Rattle.page_ring.specs.Index.{entries_of, DistinctPages}
+use Rattle.page_ring.proofs.IndexLaws.{entries-append, number-cells, remove_number}
 use Rattle.clock_ring.specs.RingState.{entry_at_node, hand_at, from_at, before_at, around, Rests}
 use Rattle.clock_ring.proofs.MoveLaws.{alone_at, entry_here, next_rests, placed}
 use Rattle.clock_ring.proofs.StepLaws.{NodeAt}

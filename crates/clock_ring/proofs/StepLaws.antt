@@ -12,9 +12,11 @@ use Rattle.clock_policy.proofs.AdmitLaws.{keyed}
 use Rattle.clock_policy.specs.SingleMoves.{front_turned, test_hand_on}
 use Rattle.page_ring.specs.declared.links.Node.{Node}
 use Rattle.page_ring.specs.Linked.{Cell, DistinctNodes, is_at, first_at, last_at}
-use Rattle.page_ring.specs.LinkLaws.{at_self, not_same, apart_turned}
-use Rattle.page_ring.specs.Chain.{of_kind, Rotates, rotates_split}
-use Rattle.page_ring.specs.Index.{entries_of, at_of, appended_distinct}
+use Rattle.page_ring.proofs.LinkLaws.{at_self, not_same, apart_turned}
+use Rattle.page_ring.specs.Chain.{of_kind, Rotates}
+use Rattle.page_ring.proofs.ChainLaws.{rotates_split}
+use Rattle.page_ring.specs.Index.{entries_of, at_of}
+use Rattle.page_ring.proofs.IndexLaws.{appended_distinct}
 use Rattle.clock_ring.specs.declared.counts.Counts.{Counts}
 use Rattle.clock_ring.specs.RingState.{entry_at_node, hand_at, Rests, Whole, Counted, Kept, More, HasOne}
 use Rattle.clock_ring.proofs.CountedLaws.{has_one, counted_removed, counted_appended, counted_marked, counted_turned, counted_length, less_length, length_marked, length_removed}

@@ -13,7 +13,8 @@ use Rattle.clock_policy.proofs.TrimMoveLaws.{trimmed_by_moves}
 use Rattle.page_ring.specs.declared.links.Node.{Node}
 use Rattle.page_ring.specs.Linked.{Cell, DistinctNodes, is_at}
 use Rattle.page_ring.specs.Chain.{of_kind}
-use Rattle.page_ring.specs.Index.{entries_of, entries-append, number-cells, DistinctPages}
+use Rattle.page_ring.specs.Index.{entries_of, DistinctPages}
+use Rattle.page_ring.proofs.IndexLaws.{entries-append, number-cells}
 use Rattle.clock_ring.specs.RingState.{entry_at_node, hand_at, around, ended_kind}
 use Rattle.clock_ring.proofs.MoveLaws.{next_rests, entry_here}
 use Rattle.clock_ring.proofs.StepLaws.{NodeAt, Made}

@@ -13,7 +13,7 @@ use Rattle.rv_isa.specs.declared.kinds.OpKind.{OpKind}
 use Rattle.rv_exec.specs.Access.{load_width, store_width, extended}
 use Rattle.rv_exec.specs.Arithmetic.{word_sum, even, result_of, immediate_operation, shift_operation, is_taken}
 use Rattle.rv_exec.specs.Registers.{Registers, register, with_register, with_pc, next_pc}
-use Rattle.rv_exec.specs.RegistersLaws.{read_aside, advanced, computed_aside, landed_aside}
+use Rattle.rv_exec.proofs.RegistersLaws.{read_aside, advanced, computed_aside, landed_aside}
 use Rattle.rv_exec.specs.Line.{Line, Next, computed, landed, jumped, load_line, store_line, after_load, after_store}
 use Rattle.rv_exec.proofs.LineLaws.{all_front, all_none}
 use Rattle.rv_exec.specs.Uses.{page_of_access, load_pages, store_pages}

@@ -14,7 +14,7 @@ use Rattle.page_memory.specs.ReadOnly.{KeepsReadOnly}
 use Rattle.page_memory.proofs.KeptPages.{kept_itself, kept_on}
 use Rattle.rv_exec.specs.Arithmetic.{word_sum}
 use Rattle.rv_exec.specs.Registers.{Registers, with_pc}
-use Rattle.rv_exec.specs.RegistersLaws.{pc_aside, read_aside}
+use Rattle.rv_exec.proofs.RegistersLaws.{pc_aside, read_aside}
 use Rattle.rv_exec.specs.Line.{Next, Call, line}
 use Rattle.rv_exec.proofs.LineLaws.{line_fetched, all_front}
 use Rattle.rv_exec.specs.Uses.{load_pages, store_pages, fetched_pages, fetched_stores, decoded_pages, pages_used, pages_stored}

@@ -1,5 +1,5 @@
 -- Whose turn it is, and runs by turns put together.
-use Rattle.std.proofs.Common.{◌≡◌, ◌+◌, ℕ, true, Option, Some, None, IsSome, Result, Ok, Err, IfOk, unwrap_or, ap, ◌∙◌, sym, true≢false}
+use Rattle.std.proofs.Common.{◌≡◌, ◌+◌, ℕ, true, Option, Some, None, IsSome, Result, Ok, Err, IfOk, unwrap_or, refl, ap, ◌∙◌, sym, true≢false}
 use Rattle.env_calls.specs.Environment.{next_live}
 use Rattle.env_calls.proofs.LiveLaws.{next_is_live, next_is_some}
 use Rattle.flat_machine.specs.Process.{Process, IsWhole, is_live, flat_step}
@@ -9,20 +9,22 @@ use Rattle.flat_machine.specs.Refusals.{WantsMemory, WantsAt}
 
 -- ---- whose turn it is
 
-pub turn_is : (hart : ℕ) (process : Process) (next : ℕ) → next_live hart process.environment.live ≡ Some next → turn_after hart process ≡ next
-turn_is hart process next e = ap (λ o. unwrap_or o hart) e
-
-pub turn_lives : (hart : ℕ) (process : Process) (next : ℕ) → next_live hart process.environment.live ≡ Some next → is_live next process ≡ true
+turn_lives : (hart : ℕ) (process : Process) (next : ℕ) → next_live hart process.environment.live ≡ Some next → is_live next process ≡ true
 turn_lives hart process next e = next_is_live hart process.environment.live next e
 
 no_turn : (o : Option ℕ) → IsSome o → o ≡ None → ⊥
 no_turn None some e = true≢false (sym some)
 no_turn (Some x) some e = cc
 
-pub some_turn : (hart : ℕ) (process : Process) → IsWhole process → next_live hart process.environment.live ≡ None → ⊥
+some_turn : (hart : ℕ) (process : Process) → IsWhole process → next_live hart process.environment.live ≡ None → ⊥
 some_turn hart process whole e = no_turn (next_live hart process.environment.live) (next_is_some hart process.environment.live whole.some) e
 
-pub ruleset turning = (turn_is, turn_lives, some_turn)
+pub turn_is_live : (hart : ℕ) (process : Process) → IsWhole process → is_live (turn_after hart process) process ≡ true
+turn_is_live hart process whole = by (next_live hart process.environment.live) refl
+  where
+    by : (o : Option ℕ) → next_live hart process.environment.live ≡ o → is_live (unwrap_or o hart) process ≡ true
+    by None e = absurd (some_turn hart process whole e)
+    by (Some next) e = turn_lives hart process next e
 
 -- ---- a hart that is alone
 

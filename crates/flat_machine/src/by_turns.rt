@@ -147,14 +147,10 @@ impl FlatProcess {
     }
 
     /// Whose turn it is after a hart's.
-    #[tactic(auto, using(crate::proofs::Turning::turning))]
     pub fn turn_after(&self, hart: u32) -> u32
         ensures turn { result ≡ turn_after hart self.now }
         ensures lives { is_live result self.now ≡ true }
     {
-        match self.env.next_live(hart) {
-            Some(next) => next,
-            None => unreachable!(),
-        }
+        self.env.next_live(hart).unwrap_or(hart)
     }
 }

@@ -46,7 +46,7 @@ pub(crate) fn run_plainly(
 
 /// The same by their words.
 #[inline(never)]
-#[tactic(auto, using(rv_exec::specs::RegistersLaws::own_pc))]
+#[tactic(auto, using(rv_exec::proofs::RegistersLaws::own_pc))]
 fn run_words(hart: u32, regs: &mut Regs, memory: &mut FlatMemory, most: u64) -> Halt<u64>
     ensures ran { plain_run hart (most - result.left) regs.old memory.old ≡
         Some (regs.new, memory.new) }

@@ -285,10 +285,9 @@ fn end_from(
         ended done (drop place pending.old.items) site (calls_of counts.old site)) }
 {
     'calls: while pending.len() > place {
-        let Some(last) = pending.pop() else {
-            unreachable!();
-        };
-        counts.end(last, done)?;
+        if let Some(last) = pending.pop() {
+            counts.end(last, done)?;
+        }
     }
     Ok(())
 }

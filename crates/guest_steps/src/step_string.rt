@@ -68,7 +68,7 @@ impl StepString {
                 Ok(Some(told))
             }
             Err(StepRefusal::NoMemory) => Err(AllocError),
-            Err(StepRefusal::Ended | StepRefusal::NoHart) => unreachable!(),
+            Err(StepRefusal::Ended | StepRefusal::NoHart) => Ok(None),
         }
     }
 

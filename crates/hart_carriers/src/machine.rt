@@ -145,7 +145,7 @@ fn make_desk<L: Ledger, C: Clock>(
     }
     match Desk::new(alloc, frames, blank) {
         Ok(desk) => Ok(desk),
-        Err(PoolError::BadSize) => unreachable!(),
+        Err(PoolError::BadSize) => Err(RunRefusal::BadSize),
         Err(PoolError::NoMemory) => Err(RunRefusal::NoMemory),
     }
 }

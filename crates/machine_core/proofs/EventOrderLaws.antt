@@ -89,13 +89,18 @@ module _ {S : Type 0} where
     other_added hart number p true apart = ap (λ b. if b then hart ∷ [] else []) (ne_eqb number p apart)
     other_added hart number p false apart = refl
 
+    -- a step ran one instruction, or none
+    pub one_ran : (p hart : ℕ) (old new : CoreValue S) (answer : Reply) (steps : StepsHart held honest p hart old new answer) → replicate steps.one.how.ran hart ≡ (if has_run (step_reply steps.why) then hart ∷ [] else [])
+    one_ran p hart old new answer steps =
+        let one = steps.one in
+        let going : one.process.running.ending ≡ None = not_ended one.process.running.ending (slice_index_or one.process.running.environment.live hart false) (sym (ap (of_process (hart_reason hart)) one.found) ∙ steps.allowed) in
+        ran_one hart one.how.ran steps.why one.process one.process' going one.how.slice
+
     pub step_tells : (p hart : ℕ) (old new : CoreValue S) (answer : Reply) → StepsHart held honest p hart old new answer → Tells (Step p hart) answer old new
     step_tells p hart old new answer steps =
         let one = steps.one in
         let slice = one.how.slice in
-        let going : one.process.running.ending ≡ None = not_ended one.process.running.ending (slice_index_or one.process.running.environment.live hart false) (sym (ap (of_process (hart_reason hart)) one.found) ∙ steps.allowed) in
-        let ran : replicate one.how.ran hart ≡ adds p (Step p hart) answer =
-        ran_one hart one.how.ran steps.why one.process one.process' going slice ∙ ap (λ r. if has_run r then hart ∷ [] else []) (sym steps.reply_is) ∙ sym (own_added hart p (has_run answer)) in
+        let ran : replicate one.how.ran hart ≡ adds p (Step p hart) answer = one_ran p hart old new answer steps ∙ ap (λ r. if has_run r then hart ∷ [] else []) (sym steps.reply_is) ∙ sym (own_added hart p (has_run answer)) in
         record {
           recorded = λ number process at.
               one_remains old.processes new.processes p one.process one.process' one.found one.is (λ n. adds n (Step p hart) answer)

@@ -22,3 +22,5 @@ pub mod PurgeEvents
 pub mod SavesOut
 pub mod SavingPages
 pub mod SingleSteps
+pub mod WritingAheadLaws
+pub mod ApplyingLaws

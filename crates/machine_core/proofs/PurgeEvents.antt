@@ -23,7 +23,7 @@ use Rattle.machine_sides.specs.declared.purging.Purging.{Purging}
 use Rattle.machine_sides.specs.declared.purging.Purging.TheVariants.{Done, Refused, HandedBack}
 use Rattle.machine_core.specs.Machine.{CoreValue, IsMachine, total}
 use Rattle.machine_core.specs.MachineRun.{of_process}
-use Rattle.machine_core.specs.PurgeEvent.{purge_reason, purge_refusal, PurgesAt, PurgesOnce, IsDone}
+use Rattle.machine_core.specs.PurgeEvent.{purge_reason, purge_refusal, PurgesAt, PurgesOnce}
 use Rattle.machine_sides.proofs.PurgeLaws.{given_savings, given_stays, given_copies, purged_together, purged_pool}
 use Rattle.machine_sides.specs.Purging.{purge_bars, Purges, PurgesAll, StopsPurging}
 use Rattle.machine_sides.specs.Sides.{PagerSideValue}
@@ -95,8 +95,8 @@ module _ {S : Type 0} where
       omega (arith, full, free, size, slotted, all, part, length-append core.slots.free gave.slots)
 
   purges_all : (core : CoreValue S) (pager' : PagerSideValue) (pool' : PoolValue S) (p : ℕ) (q q' : SpaceValue S) (result : Purging S) → IsMachine core → slice_get core.processes p ≡ Some q
-      → purge_bars q ≡ None → Purges core.pager pager' q q' core.slots pool' result → IsDone result × PurgesAll core.pager pager' q q' core.slots pool'
-  purges_all core pager' pool' p q q' Done machine found allowed how = (tt, how)
+      → purge_bars q ≡ None → Purges core.pager pager' q q' core.slots pool' result → PurgesAll core.pager pager' q q' core.slots pool'
+  purges_all core pager' pool' p q q' Done machine found allowed how = how
   purges_all core pager' pool' p q q' (Refused reason) machine found allowed how = let why = how.why in cc
   purges_all core pager' pool' p q q' (HandedBack slot) machine found allowed how = absurd (no_slot_back core pager' pool' p q q' slot machine found how)
 
@@ -144,17 +144,14 @@ module _ {S : Type 0} where
         let is : new ≡ slice_set items p purges.process' = purges.is ∙ ap (λ l. slice_set l p purges.process') same in
         sym is ∙ sym (lent_back items new n long (ap length is ∙ length-set items p purges.process'))
 
-    told : IsDone result × PurgesAll pager pager' purges.process purges.process' pool pool'
+    told : PurgesAll pager pager' purges.process purges.process' pool pool'
     told = purges_all core pager' pool' p purges.process purges.process' result machine found (unbarred_at items p purges.process allowed found) purges.how
 
-    pub purge_done : IsDone result
-    purge_done = told.0
-
     pub purged_back : IsMachine left
-    purged_back = subst (λ l. IsMachine (record { pager = pager'; slots = pool'; processes = l; jobs = jobs; copies = copies })) is_set (purged_machine core pager' pool' p purges.process purges.process' machine found told.1)
+    purged_back = subst (λ l. IsMachine (record { pager = pager'; slots = pool'; processes = l; jobs = jobs; copies = copies })) is_set (purged_machine core pager' pool' p purges.process purges.process' machine found told)
 
     pub purged_size : pager'.pager.size ≡ pager.pager.size
-    purged_size = ap (λ (s : PagerSideValue). s.pager.size) told.1.pager_is
+    purged_size = ap (λ (s : PagerSideValue). s.pager.size) told.pager_is
 
     pub purged_once : (old : CoreValue S) (reply : Reply) → core ≡ old → reply ≡ Purged → PurgesOnce p old left reply
     purged_once old reply e is = subst (λ o. PurgesOnce p o left reply) e (record {
@@ -162,7 +159,7 @@ module _ {S : Type 0} where
       process = purges.process;
       process' = purges.process';
       found = found;
-      purges = told.1;
+      purges = told;
       processes = sym is_set;
       stays = refl;
       reply_is = is;

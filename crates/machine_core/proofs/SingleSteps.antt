@@ -5,7 +5,7 @@ use Rattle.flat_machine.specs.declared.end.End.{End}
 use Rattle.machine_core.proofs.Cores.{alike_machine, step_alike, lent_back}
 use Rattle.machine_core.proofs.TotalLaws.{got_set, get_set_same}
 use Rattle.machine_core.specs.Applying.{Applies, Runs}
-use Rattle.machine_core.specs.ApplyingLaws.{runs_none, runs_more}
+use Rattle.machine_core.proofs.ApplyingLaws.{runs_none, runs_more}
 use Rattle.machine_core.specs.Coherent.{IsCoherent, EachCoherent}
 use Rattle.machine_core.specs.Faithful.{IsFaithful}
 use Rattle.machine_core.specs.Machine.{CoreValue}

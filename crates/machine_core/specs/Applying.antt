@@ -1,5 +1,5 @@
 -- The machine run: events one after another, each with its reply.
-use Rattle.std.specs.Prelude.{◌≡◌, ◌⊎◌, ℕ, List, [], ◌∷◌}
+use Rattle.std.specs.Prelude.{◌≡◌, ◌⊎◌, ℕ, List, [], ◌∷◌, ◌++◌}
 use Rattle.clock_policy.specs.ClockPro.{question_of}
 use Rattle.machine_core.specs.declared.event.Event.{Event}
 use Rattle.machine_core.specs.declared.event.Event.TheVariants.{Step, Notice, Sweep, Collect, Saved, PageIn, Kill, Purge, Clean, Copy, Cleaned}
@@ -45,3 +45,12 @@ module _ {S : Type 0} (held : S → List ℕ) (honest : Type 0) (failures : S �
     pub events : List Event
     pub replies : List Reply
     pub runs : Runs events replies old new
+
+  -- a run that was cut in two
+  pub record CutRun (first second : List Event) (replies : List Reply) (old new : CoreValue S) : Type 0 where
+    pub replies-first : List Reply
+    pub replies-second : List Reply
+    pub between : CoreValue S
+    pub joined : replies ≡ replies-first ++ replies-second
+    pub before : Runs first replies-first old between
+    pub after : Runs second replies-second between new

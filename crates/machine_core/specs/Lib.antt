@@ -1,5 +1,4 @@
 pub mod Applying
-pub mod ApplyingLaws
 pub mod CollectEvent
 pub mod Faithful
 pub mod Headline
@@ -14,3 +13,4 @@ pub mod RefusalNumber
 pub mod SavingOut
 pub mod Coherent
 pub mod CleaningEvents
+pub mod WritingAhead

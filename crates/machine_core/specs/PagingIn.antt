@@ -3,7 +3,7 @@ use Rattle.std.specs.Prelude.{◌≡◌, ◌≢◌, ◌⊎◌, ℕ, List, ◌++�
 use Rattle.clock_policy.specs.declared.key.Key.{Key}
 use Rattle.clock_policy.specs.ClockPro.{kind_of, withdrawn}
 use Rattle.frame_pool.specs.FrameValue.{FrameValue}
-use Rattle.paged_memory.specs.moves.Moving.{RefusesIn, SameEntries}
+use Rattle.paged_memory.specs.moves.Moving.{RefusesIn, SameEntries, SameFailures}
 use Rattle.paged_memory.specs.declared.filling.PageInFault.{PageInFault}
 use Rattle.paged_memory.specs.declared.filling.PageInFault.TheVariants as load
 use Rattle.pager_core.specs.Pager.{none_free}
@@ -47,6 +47,7 @@ module _ {S : Type 0} where
       pub admission : AdmissionValue
       pub admits : Admits key pager pager' process admission
       pub loads : Loads held honest admission process process'
+      pub passed : SameFailures failures admission.key.vpn process.memory process'.memory
       pub reply_is : reply ≡ Mapped
 
     pub record IsTakenBack : Type 0 where

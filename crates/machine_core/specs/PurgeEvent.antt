@@ -12,7 +12,6 @@ use Rattle.machine_core.specs.declared.event.Reply.TheVariants.{Purged}
 use Rattle.machine_sides.specs.declared.purging.PurgeRefusal.{PurgeRefusal}
 use Rattle.machine_sides.specs.declared.purging.PurgeRefusal.TheVariants.{NotEnded, SavingStill, AlreadyPurged}
 use Rattle.machine_sides.specs.declared.purging.Purging.{Purging}
-use Rattle.machine_sides.specs.declared.purging.Purging.TheVariants.{Done, Refused, HandedBack}
 use Rattle.space_core.specs.StandsFor.{SpaceValue}
 
 -- a process's reason to give nothing back as a refusal of the event
@@ -20,12 +19,6 @@ abbrev pub purge_reason : PurgeRefusal → EventRefusal
 purge_reason NotEnded = refusal.NotEnded
 purge_reason SavingStill = refusal.SavingStill
 purge_reason AlreadyPurged = refusal.Purged
-
--- whether everything was given back
-abbrev pub IsDone : {S : Type 0} → Purging S → Type 0
-IsDone Done = Unit {0}
-IsDone (Refused reason) = ⊥
-IsDone (HandedBack slot) = ⊥
 
 module _ {S : Type 0} where
   -- why the event is refused

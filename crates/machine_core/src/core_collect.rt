@@ -1,7 +1,7 @@
 //! The machine's event of a page that is to leave its frame.
 
 ghost use Rattle.std.specs.Prelude.{◌≡◌, ◌⊎◌, ◌<◌, length, vec_len, vec_capacity};
-ghost use Rattle.machine_core.specs.CollectEvent.{collect_refusal, CollectsOnce, LooksAt, IsOwn};
+ghost use Rattle.machine_core.specs.CollectEvent.{collect_refusal, CollectsOnce, LooksAt};
 ghost use Rattle.machine_core.specs.CollectEvent.{jobs_after, looked_reply};
 ghost use Rattle.machine_core.specs.MachineRun.{RefusesEvent};
 
@@ -67,14 +67,13 @@ fn collect_at<L: Ledger, S: SwapSlot, C: Clock>(
 
 /// Keeps the save of a changed page, and tells what is replied.
 fn keep<S: SwapSlot>(looked: Looked<S>, jobs: &mut Vec<SaveJob<S>>) -> Reply
-    requires own { IsOwn looked }
-    requires room { vec_len jobs.old < vec_capacity jobs.old }
+    requires { vec_len jobs.old < vec_capacity jobs.old }
     ensures reply { result ≡ looked_reply looked }
     ensures jobs { jobs.new.items ≡ jobs_after looked jobs.old.items }
     ensures capacity { vec_capacity jobs.new ≡ vec_capacity jobs.old }
 {
     match looked {
-        Looked::NotLeaving => unreachable!(),
+        Looked::NotLeaving => Reply::Refused(EventRefusal::NotLeaving),
         Looked::NotYet => Reply::NotYet,
         Looked::Freed => Reply::Freed,
         Looked::Dirty(job) => {

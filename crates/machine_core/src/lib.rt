@@ -32,4 +32,4 @@ pub use machine_sides::{
     purge, saved, sweep, undo,
 };
 pub use many_steps::StepsReply;
-pub use running::cut_run;
+pub use running::{cut_run, writes_ahead};

@@ -4,6 +4,7 @@ ghost use Rattle.std.specs.Prelude.{◌≡◌, Some, None, IfErr, OnOk, OnErr};
 ghost use Rattle.machine_sides.specs.Agreeing.{AgreeStill, AgreesWhereListed};
 ghost use Rattle.machine_sides.specs.Loading.{Loads, DoesNotLoad};
 ghost use Rattle.machine_sides.specs.Together.{key_of};
+ghost use Rattle.paged_memory.specs.moves.Moving.{SameFailures};
 ghost use Rattle.pager_core.specs.Pager.{PagerState};
 
 use crate::admission::Admission;
@@ -21,6 +22,8 @@ pub fn load<L: Ledger, S: SwapSlot>(
 ) -> Result<(), (Admission<L>, PageInFault)>
     ensures loaded { OnOk result (Loads S.content S.honest admission space.old
         space.new) }
+    ensures passed { OnOk result (SameFailures S.failures admission.key.vpn space.old.memory
+        space.new.memory) }
     ensures refused { IfErr result (λ back.
         DoesNotLoad S.content S.honest S.failures admission back.0 back.1 space.old
         space.new) }
@@ -42,6 +45,8 @@ fn bring_in<L: Ledger, S: SwapSlot>(
 ) -> Result<(), (Admission<L>, PageInFault)>
     ensures loaded { OnOk result (Loads S.content S.honest admission space.old
         space.new) }
+    ensures passed { OnOk result (SameFailures S.failures admission.key.vpn space.old.memory
+        space.new.memory) }
     ensures refused { IfErr result (λ back.
         DoesNotLoad S.content S.honest S.failures admission back.0 back.1 space.old
         space.new) }

@@ -4,7 +4,7 @@ use Rattle.std.proofs.lemmas.List.{drop_more}
 use Rattle.clock_policy.specs.declared.key.Key.{Key}
 use Rattle.page_policies.specs.Strings.{is_page}
 use Rattle.whole_strings.specs.PageCounts.{first_uses}
-use Rattle.whole_strings.specs.LruDepthLaws.{seen_alike}
+use Rattle.whole_strings.proofs.LruDepthLaws.{seen_alike}
 
 -- one reference more
 pub seen_more : (string : List Key) (i : ℕ) (d : Key) (old new : Key → Bool) → i < length string → ((q : Key) → new q ≡ cond (is_page (slice_index_or string i d) q) true (old q))

@@ -13,10 +13,7 @@ fn power_of_two(power: u32) -> Frames
     requires most { power < 13 }
     ensures { result.number ≡ 2 ^ power }
 {
-    match Frames::new(1usize << power) {
-        Some(frames) => frames,
-        None => unreachable!(),
-    }
+    Frames::of(1usize << power)
 }
 
 /// 4 frames, and twice as many again and again, until there are so many, or 4096.

@@ -5,7 +5,7 @@ ghost use Rattle.clock_policy.specs.declared.key.Key.{Key};
 ghost use Rattle.miss_counts.specs.Playing.{GoesOn};
 
 use clock_policy::Key;
-use page_policies::{Frames, HitOrMiss, Policy, PolicyRefusal};
+use page_policies::{Frames, HitOrMiss, Policy};
 use std::alloc::{AllocError, Global};
 
 /// A count that is kept as references come. After an error nothing is said of it.
@@ -56,8 +56,8 @@ pub(crate) fn new_player<P: Policy>(alloc: Global, frames: Frames) -> Result<Pla
 {
     match P::new(alloc, frames) {
         Ok(policy) => Ok(player_of(policy)),
-        Err(PolicyRefusal::NoMemory) => Err(AllocError),
-        Err(PolicyRefusal::BadSize) => unreachable!(),
+        // The policy serves these frames, so that only memory is wanting.
+        Err(_) => Err(AllocError),
     }
 }
 

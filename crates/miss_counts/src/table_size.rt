@@ -29,11 +29,7 @@ impl FootprintPart {
         ensures { result.number ≡ part_of pages self }
     {
         let part = pages as u128 * u128::from(self.millionths) / 1_000_000;
-        let number = part.max(1).min(MOST_POLICY_FRAMES as u128) as usize;
-        match Frames::new(number) {
-            Some(frames) => frames,
-            None => unreachable!(),
-        }
+        Frames::of(part.max(1).min(MOST_POLICY_FRAMES as u128) as usize)
     }
 }
 

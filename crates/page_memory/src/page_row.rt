@@ -150,7 +150,7 @@ impl PageRow {
         self.push(alloc, number, page.rights(), page.bytes())
     }
 
-    /// The same for a page of these rights and bytes. Room for the bytes is found before anything changes.
+    /// The same for a page of these rights and bytes.
     fn push(
         &mut self,
         alloc: Global,
@@ -165,11 +165,14 @@ impl PageRow {
             (number, record { rights = rights; bytes = bytes.now }) ∷ []) }
         ensures err { OnErr result (self.new ≡ self.old) }
     {
-        self.bytes.reserve(PAGE_SIZE)?;
-        self.rights.insert(alloc, number, rights)?;
-        match self.bytes.extend_from_slice(bytes) {
-            Ok(()) => Ok(()),
-            Err(_) => unreachable!(),
+        let length = self.bytes.len();
+        self.bytes.extend_from_slice(bytes)?;
+        match self.rights.insert(alloc, number, rights) {
+            Ok(_) => Ok(()),
+            Err(error) => {
+                self.bytes.truncate(length);
+                Err(error)
+            }
         }
     }
 

@@ -1,3 +1,11 @@
+pub mod NumberLaws
+pub mod QueueLaws
+pub mod CountLaws
+pub mod DemandLaws
+pub mod PlayedLaws
+pub mod PartLaws
+pub mod SlotLaws
+pub mod RandomLaws
 pub mod OrderedLaws
 pub mod InclusionLaws
 pub mod SlotPlayLaws

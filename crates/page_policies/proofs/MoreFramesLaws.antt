@@ -3,10 +3,10 @@ use Rattle.std.specs.Prelude.{ℕ, ◌≤◌, List, [], ◌∷◌}
 use Rattle.std.proofs.Common.{arith}
 use Rattle.clock_policy.specs.declared.key.Key.{Key}
 use Rattle.page_policies.specs.Demand.{MayLeave, Plays}
-use Rattle.page_policies.specs.DemandLaws.{none_misses_less}
+use Rattle.page_policies.proofs.DemandLaws.{none_misses_less}
 use Rattle.page_policies.specs.Inclusion.{MissesNoMore}
 use Rattle.page_policies.specs.Optimal.{optimal_misses}
-use Rattle.page_policies.specs.PlayedLaws.{optimum_played}
+use Rattle.page_policies.proofs.PlayedLaws.{optimum_played}
 
 leaves_more : (few many : ℕ) (p : Key) (s u : List Key) → few ≤ many → MayLeave few p s u → MayLeave many p s u
 leaves_more few many p s u h leaves = record { there = leaves.there; few = let fewer = leaves.few in omega (arith, h, fewer); from = leaves.from }

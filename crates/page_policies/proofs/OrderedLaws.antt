@@ -9,7 +9,7 @@ use Rattle.clock_policy.specs.declared.key.Key.{Key}
 use Rattle.lru.specs.LruCache.{LruCache, lru_cache, promoted, put_entries}
 use Rattle.page_policies.specs.Strings.{is_page, holds}
 use Rattle.page_policies.specs.Ordered.{to_front, but_last}
-use Rattle.page_policies.specs.QueueLaws.{Found, found, none_found, holds_found, promoted_keys, keys_removed, keys_taken, absent}
+use Rattle.page_policies.proofs.QueueLaws.{Found, found, none_found, holds_found, promoted_keys, keys_removed, keys_taken, absent}
 
 pub front_keys : (c d : LruCache Key (Unit {0})) (p : Key) → d ≡ lru_cache (put_entries is_page c p tt) c.cap → c.cap ≡ 2 ^ 64 - 1 → length c.entries < 2 ^ 63 → keys_of d.entries ≡ to_front p (keys_of c.entries)
 front_keys c d p is all few = ap (λ (m : LruCache Key (Unit {0})). keys_of m.entries) is ∙ elim (is_some (lookup (is_page p) c.entries)) as (λ b. is_some (lookup (is_page p) c.entries) ≡ b → keys_of (put_entries is_page c p tt) ≡ to_front p (keys_of c.entries)) [

@@ -5,9 +5,9 @@ use Rattle.std.proofs.lemmas.Bool.Decides.{nat_tests}
 use Rattle.clock_policy.specs.declared.key.Key.{Key}
 use Rattle.page_policies.specs.Strings.{is_page, holds, misses}
 use Rattle.page_policies.specs.SecondChance.{Slot, in_slots, touched, front_used, turned, one_gone, room_made, second_chance, clock_misses}
-use Rattle.page_policies.specs.SlotLaws.{length-room_made}
+use Rattle.page_policies.proofs.SlotLaws.{length-room_made}
 use Rattle.page_policies.specs.Demand.{number, MayLeave, Plays, IsPlayed}
-use Rattle.page_policies.specs.PlayedLaws.{here, stays}
+use Rattle.page_policies.proofs.PlayedLaws.{here, stays}
 
 -- the pages of the frames, from the hand on
 abbrev pages_of : List Slot → List Key

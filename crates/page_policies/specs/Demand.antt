@@ -9,6 +9,10 @@ abbrev pub number : (Key → Bool) → List Key → ℕ
 number test [] = 0
 number test (q ∷ qs) = cond (test q) 1 0 + number test qs
 
+-- one for what is so
+abbrev pub one : Bool → ℕ
+one b = cond b 1 0
+
 -- A reference to p may leave the pages u in m frames where s were: p is there, and whatever else is there was there before. Any
 -- others may have left.
 pub record MayLeave (m : ℕ) (p : Key) (s u : List Key) : Type 0 where

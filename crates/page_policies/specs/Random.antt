@@ -6,6 +6,7 @@ use Rattle.rand_pcg.specs.Lcg.{Lcg, started, increment_of}
 use Rattle.rand_pcg.specs.Pcg.{multiplier_64, pcg32}
 use Rattle.clock_policy.specs.declared.key.Key.{Key}
 use Rattle.page_policies.specs.Strings.{holds, misses}
+use Rattle.page_policies.specs.declared.random_state.RandomPolicy.{RandomPolicy}
 
 -- the pages in frames, and the generator
 pub record RandomState : Type 0 where
@@ -48,3 +49,7 @@ usual_seed = 42
 
 unfoldable pub random_misses : ℕ → ℕ → List Key → ℕ
 random_misses seed m string = misses in_random (random m) (record { pages = []; generator = seeded seed }) string
+
+-- as its counter is seen
+abbrev pub pages_of : RandomPolicy → RandomState
+pages_of s = record { pages = s.pages.keys; generator = s.generator }

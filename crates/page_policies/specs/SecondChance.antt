@@ -1,6 +1,8 @@
 -- CLOCK (second chance) on the circle of frames, told from the hand on.
 use Rattle.std.specs.Prelude.{ℕ, zero, suc, Bool, true, false, cond, nat_lt, List, [], ◌∷◌, ◌++◌, length, drop}
 use Rattle.clock_policy.specs.declared.key.Key.{Key}
+use Rattle.clock_policy.specs.ClockPro.{is_hot}
+use Rattle.page_ring.specs.Linked.{Cell}
 use Rattle.page_policies.specs.Strings.{is_page, misses}
 
 -- a frame's page, and whether it was used since the hand last passed it
@@ -42,3 +44,11 @@ second_chance m p s = cond (in_slots p s) (touched p s) (room_made m s ++ record
 
 unfoldable pub clock_misses : ℕ → List Key → ℕ
 clock_misses m string = misses in_slots (second_chance m) [] string
+
+-- the circle's cells as slots
+abbrev pub slot_of : Cell → Slot
+slot_of c = record { page = c.entry.key; used = is_hot c.entry.kind }
+
+abbrev pub slots_of : List Cell → List Slot
+slots_of [] = []
+slots_of (c ∷ cs) = slot_of c ∷ slots_of cs

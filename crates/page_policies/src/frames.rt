@@ -26,7 +26,16 @@ impl Frames {
         if !(1..=MOST_POLICY_FRAMES).contains(&number) {
             return None;
         }
-        Some(Frames { number })
+        Some(Frames::of(number))
+    }
+
+    /// So many, which a policy may have.
+    pub fn of(number: usize) -> Frames
+        requires least { 1 ≤ number }
+        requires most { number ≤ most_policy_frames }
+        ensures { result.number ≡ number }
+    {
+        Frames { number }
     }
 
     pub fn number(self) -> usize

@@ -23,14 +23,14 @@ pub fn more_frames_never_miss_more()
 
 /// No way to serve a string that brings each page in when it is used, and no sooner, misses less than the optimum: whichever pages
 /// leave, and whenever, as long as each page is there when it is used and no more pages than frames ever are.
-#[tactic(auto, using(crate::specs::DemandLaws::none_misses_less))]
+#[tactic(auto, using(crate::proofs::DemandLaws::none_misses_less))]
 pub fn no_policy_misses_less()
     ensures { NoneMissesLess }
 {}
 
 /// The optimum can be reached: what it does is a way to serve the string. FIFO, CLOCK, LRU and random replacement are such ways too, so
 /// that the optimum is their floor.
-#[tactic(auto, using(crate::specs::PlayedLaws::optimum_played, crate::specs::PlayedLaws::fifo_played, crate::specs::PlayedLaws::lru_played, crate::proofs::SlotPlayLaws::clock_played, crate::specs::RandomLaws::random_played))]
+#[tactic(auto, using(crate::proofs::PlayedLaws::optimum_played, crate::proofs::PlayedLaws::fifo_played, crate::proofs::PlayedLaws::lru_played, crate::proofs::SlotPlayLaws::clock_played, crate::proofs::RandomLaws::random_played))]
 pub fn optimum_is_a_play()
     ensures optimum { IsPlayed optimal_misses }
     ensures fifo { IsPlayed fifo_misses }

@@ -5,8 +5,7 @@ ghost use Rattle.rand_pcg.specs.Pcg.{pcg32};
 ghost use Rattle.clock_policy.specs.declared.key.Key.{Key};
 ghost use Rattle.page_policies.specs.Strings.{holds, misses as misses_by};
 ghost use Rattle.page_policies.specs.Random.{place_of, drawn, room_drawn, joined, in_random};
-ghost use Rattle.page_policies.specs.Random.{random, random_misses, usual_seed};
-ghost use Rattle.page_policies.specs.RandomLaws.{pages_of};
+ghost use Rattle.page_policies.specs.Random.{random, random_misses, usual_seed, pages_of};
 
 use crate::frames::Frames;
 use crate::policy::{HitOrMiss, Policy};

@@ -5,8 +5,7 @@ ghost use Rattle.std.specs.Prelude.{true, false};
 ghost use Rattle.page_ring.specs.Index.{at_of};
 ghost use Rattle.page_policies.specs.Strings.{misses as misses_by};
 ghost use Rattle.page_policies.specs.SecondChance.{in_slots, touched, front_used, turned, one_gone};
-ghost use Rattle.page_policies.specs.SecondChance.{room_made, second_chance, clock_misses};
-ghost use Rattle.page_policies.specs.SlotLaws.{slots_of};
+ghost use Rattle.page_policies.specs.SecondChance.{room_made, second_chance, clock_misses, slots_of};
 
 use crate::frames::Frames;
 use crate::policy::{HitOrMiss, Policy};

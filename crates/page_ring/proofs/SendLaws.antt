@@ -6,8 +6,9 @@ use Rattle.slab.specs.Slab.{Slab, get, slab_len}
 use Rattle.clock_policy.specs.declared.entry.EntryKind.{EntryKind}
 use Rattle.page_ring.specs.declared.links.Node.{Node}
 use Rattle.page_ring.specs.Linked.{Cell, Circle, is_at, first_at, last_at}
-use Rattle.page_ring.specs.LinkLaws.{at_self, not_same, is_at-append, turned}
-use Rattle.page_ring.specs.Chain.{Held, KindSet, of_kind, mark_step, turn_step, length_with}
+use Rattle.page_ring.proofs.LinkLaws.{at_self, not_same, is_at-append, turned}
+use Rattle.page_ring.specs.Chain.{Held, of_kind}
+use Rattle.page_ring.proofs.ChainLaws.{KindSet, mark_step, turn_step, length_with}
 
 there_in : (l v : List Cell) (c : Cell) → is_at (l ++ c ∷ v) c.at ≡ true
 there_in [] v c = rw (at_self c.at) refl

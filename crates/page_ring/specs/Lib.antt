@@ -1,5 +1,4 @@
 pub mod Linked
-pub mod LinkLaws
 pub mod Chain
 pub mod Index
 pub mod Slots

@@ -334,6 +334,8 @@ impl<L: Ledger, S: SwapSlot> StoredPage<L, S> {
             (length bytes.old)) }
         ensures unread { OnErr result (bytes.new ≡ bytes.old) }
         ensures mapped { OnOk result (self.old.place ≢ Purged) }
+        ensures passed { OnOk result (failures_at S.failures self.new.place ≡
+            failures_at S.failures self.old.place) }
         ensures refused { IfErr result (RefusesRead S.failures self.old.place self.new.place) }
         ensures state { page_state_of self.new.place ≡ page_state_of self.old.place }
         ensures digest { kept_digest self.new.place ≡ kept_digest self.old.place }

@@ -14,3 +14,5 @@ pub mod HitLaws
 pub mod OnePageLaws
 pub mod BusLaws
 pub mod ReadyLaws
+pub mod StoredLaws
+pub mod ShownLaws

@@ -4,3 +4,4 @@ pub mod CleanLaws
 pub mod CleanBarLaws
 pub mod CopiesCallLaws
 pub mod CleaningLaws
+pub mod StoresToldLaws

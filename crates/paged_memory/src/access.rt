@@ -86,6 +86,7 @@ pub(crate) fn is_fetched_at_once<L: Ledger, S: SwapSlot>(
     ensures has { result ≡ true → HasPage pages.now (cache_of caches.now hart) page }
     ensures marked { result ≡ true → MarksUse pages.now tables.now (cache_of caches.now hart)
         Access.Fetch page }
+    ensures serves { result ≡ true → Serves (cache_of caches.now hart) Access.Fetch page }
 {
     let _ = pages;
     let _ = tables;
@@ -170,6 +171,7 @@ fn walk<L: Ledger, S: SwapSlot>(
     requires small { page < 2 ^ 20 }
     requires hart { hart < length caches.old }
     requires unknown { miss ≡ Miss.Unknown → translation_of page (cache_of caches.old hart) ≡ None }
+    requires missed { (place : ℕ) → ¬ Hits (cache_of caches.old hart) access page place }
     requires holds { Holds S.content S.honest pages.now tables.old caches.old }
     ensures holds { Holds S.content S.honest pages.now tables.new caches.new }
     ensures reaches { IfOk result (λ place. Reaches pages.now tables.new access page place) }

@@ -6,11 +6,12 @@ ghost use Rattle.sv32_table.specs.Entry.{page_entry};
 ghost use Rattle.sv32_table.specs.EntryAt.{has_table, ChangesEntry, AddsTable};
 ghost use Rattle.page_memory.specs.ReadOnly.{KeepsReadOnly};
 ghost use Rattle.paged_memory.specs.Paged.{page_at, memory_of};
-ghost use Rattle.page_store.specs.PageValue.{content, Backed, kept_digest};
+ghost use Rattle.page_store.specs.PageValue.{content, Backed, failures_at, kept_digest};
 ghost use Rattle.page_store.specs.Moves.{IfResident};
 ghost use Rattle.paged_memory.specs.moves.Filling.{IsAbsent, IsUnchanged, dropped, fault_of, BroughtIn};
 ghost use Rattle.paged_memory.specs.moves.Filling.{RefusesAbsent};
 ghost use Rattle.paged_memory.specs.moves.Moving.{ComesIn, RefusesIn, SameCaches, SameEntries};
+ghost use Rattle.paged_memory.specs.moves.Moving.{SameFailures};
 
 use crate::eviction::state_in;
 use crate::memory::PagedMemory;
@@ -47,6 +48,7 @@ impl<L: Ledger, S: SwapSlot> PagedMemory<L, S> {
     pub fn page_in(&mut self, vpn: u32, frame: Frame<L>) -> Result<(), (Frame<L>, PageInFault)>
         requires { vpn < 2 ^ 20 }
         ensures ok { OnOk result (ComesIn S.content S.honest frame vpn self.old self.new) }
+        ensures passed { OnOk result (SameFailures S.failures vpn self.old self.new) }
         ensures refused { IfErr result (λ back.
             RefusesIn S.content S.honest S.failures frame vpn back.0 back.1 self.old self.new) }
         ensures memory { S.honest → memory_of S.content self.new ≡ memory_of S.content self.old }
@@ -85,6 +87,8 @@ fn bring_page_in<L: Ledger, S: SwapSlot>(
     requires vpn { vpn < 2 ^ 20 }
     requires absent { IsAbsent (Some page.old) }
     ensures ok { OnOk result (BroughtIn S.content S.honest frame page.old page.new) }
+    ensures passed { OnOk result (failures_at S.failures page.new.place ≡
+        failures_at S.failures page.old.place) }
     ensures refused { IfErr result (λ back. RefusesAbsent S.content S.honest S.failures frame
         (has_table tables.old vpn) page.old page.new back.0 back.1) }
     ensures entries { OnOk result (ChangesEntry tables.old tables.new vpn

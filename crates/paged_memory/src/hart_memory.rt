@@ -49,6 +49,7 @@ pub struct HartMemory<'a, L: Ledger, S: SwapSlot, O: Opening> {
 
 impl<'a, L: Ledger, S: SwapSlot, O: Opening> HartMemory<'a, L, S, O> {
     /// The memory as a hart that was started reaches it, until the borrow ends.
+    #[tactic(auto, using(crate::specs::access::HartMemoryLaws::turn_opens))]
     pub fn new(memory: &'a mut PagedMemory<L, S>, hart: usize) -> Self
         requires started { hart < length memory.old.caches }
         requires opening { cache_of memory.old.caches hart ≡ O.opening }
@@ -66,13 +67,13 @@ impl<'a, L: Ledger, S: SwapSlot, O: Opening> HartMemory<'a, L, S, O> {
 
 impl<'a, L: Ledger, S: SwapSlot, O: Opening> Bus for HartMemory<'a, L, S, O> {
     ghost use Rattle.std.specs.Prelude.{ℕ};
-    ghost use Rattle.std.proofs.Common.{refl, ◌∙◌, subst};
+    ghost use Rattle.std.proofs.Common.{refl, sym, ◌∙◌, subst};
     ghost use Rattle.paged_memory.specs.access.Access.{HasPage, LacksPage};
-    ghost use Rattle.paged_memory.specs.access.HartMemory.{MarksSince, MarksWithin};
+    ghost use Rattle.paged_memory.specs.access.HartMemory.{MarksWithin, UsedSince};
     ghost use Rattle.paged_memory.specs.access.HartMemoryLaws.{access_itself, access_on, lacked, had};
-    ghost use Rattle.paged_memory.specs.access.HartMemoryLaws.{marked};
-    ghost use Rattle.paged_memory.specs.access.Missing.{MissesIn, TakesIn};
-    ghost use Rattle.paged_memory.specs.access.MissingLaws.{takes_kept};
+    ghost use Rattle.paged_memory.specs.access.HartMemoryLaws.{used_since};
+    ghost use Rattle.paged_memory.specs.access.Missing.{MissesIn, TakesSince};
+    ghost use Rattle.paged_memory.specs.access.MissingLaws.{since_kept};
 
     ghost memory = { λ m. memory_of S.content m.memory.now };
 
@@ -80,11 +81,11 @@ impl<'a, L: Ledger, S: SwapSlot, O: Opening> Bus for HartMemory<'a, L, S, O> {
 
     ghost has = { λ m. HasPage m.memory.now.pages (cache_of m.memory.now.caches m.hart) };
 
-    ghost marks = { λ m. MarksSince m.memory.now O.opening };
+    ghost marks = { λ m. UsedSince m.hart m.memory.now O.opening };
 
     ghost within = { λ m. MarksWithin m.memory.now.tables };
 
-    ghost takes = { λ m. TakesIn m.memory.now };
+    ghost takes = { λ m. TakesSince m.memory.now O.opening };
 
     ghost misses = { λ m. MissesIn m.memory.now m.hart };
 
@@ -109,11 +110,12 @@ impl<'a, L: Ledger, S: SwapSlot, O: Opening> Bus for HartMemory<'a, L, S, O> {
         after.memory.now kept.2 (subst (λ h. HasPage after.memory.now.pages
         (cache_of after.memory.now.caches h) page) kept.0 has) };
 
-    ghost marked_on = { λ before after page kept was. marked before.hart page O.opening
-        before.memory.now after.memory.now kept.2 was };
+    ghost marked_on = { λ before after page kept was. subst
+        (λ h. UsedSince h after.memory.now O.opening page) (sym kept.0)
+        (used_since before.hart page O.opening before.memory.now after.memory.now kept.2 was) };
 
-    ghost takes_on = { λ before after page kept taken. takes_kept before.hart page before.memory.now
-        after.memory.now kept.2 taken };
+    ghost takes_on = { λ before after page kept taken. since_kept before.hart page O.opening
+        before.memory.now after.memory.now kept.2 taken };
 
     #[inline]
     #[tactic(auto, unfolding(page_memory::specs::Pages::fetched, page_memory::specs::Pages::aligned_page))]

@@ -1,8 +1,10 @@
 //! Reads bytes of a process wherever its pages are, without a page-in and without setting A.
 
 ghost use Rattle.std.specs.Prelude.{◌≡◌, ◌+◌, ◌<◌, ◌≤◌, ◌^◌, Some, IfErr, OnErr, OnOk, length};
-ghost use Rattle.page_memory.specs.Words.{page_offset};
-ghost use Rattle.paged_memory.specs.moves.Moving.{DoesNotShow, LeavesLookedAt, OnlyPages, ShowsIn};
+ghost use Rattle.page_memory.specs.Words.{page_number, page_offset};
+ghost use Rattle.paged_memory.specs.moves.Filling.{failures_of};
+ghost use Rattle.paged_memory.specs.moves.Moving.{DoesNotShow, LeavesLookedAt, OnlyPages};
+ghost use Rattle.paged_memory.specs.moves.Moving.{SameFailures, ShowsIn};
 ghost use Rattle.page_memory.specs.ReadOnly.{KeepsReadOnly};
 ghost use Rattle.paged_memory.specs.Paged.{page_at, memory_of};
 ghost use Rattle.paged_memory.specs.Peeking.{bytes_of, ShowsBytes, LeavesPage, RefusesPeek};
@@ -34,6 +36,8 @@ impl<L: Ledger, S: SwapSlot> PagedMemory<L, S> {
             (length bytes.old) bytes.new) }
         ensures shown { S.honest → OnOk result (bytes_of (memory_of S.content self.old) address
             (length bytes.old) ≡ Some bytes.new) }
+        ensures passed { OnOk result (SameFailures S.failures
+            (page_number address) self.old self.new) }
         ensures unread { OnErr result (bytes.new ≡ bytes.old) }
         ensures refused { IfErr result (DoesNotShow S.content S.honest S.failures address self.old
             self.new) }
@@ -63,6 +67,8 @@ fn read_page<L: Ledger, S: SwapSlot>(
     requires within { offset + length bytes.old ≤ 4096 }
     ensures bytes { OnOk result (ShowsBytes S.content S.honest (page_at pages.old vpn) offset
         (length bytes.old) bytes.new) }
+    ensures passed { OnOk result (failures_of S.failures (page_at pages.new vpn) ≡
+        failures_of S.failures (page_at pages.old vpn)) }
     ensures unread { OnErr result (bytes.new ≡ bytes.old) }
     ensures refused { IfErr result (RefusesPeek S.content S.honest S.failures pages.old pages.new
         vpn) }

@@ -2,7 +2,8 @@
 
 ghost use Rattle.std.specs.Prelude.{◌≡◌, ◌+◌, ◌≤◌, ◌<◌, ◌%◌, length, is_some, Some, Ok, true};
 ghost use Rattle.std.specs.Prelude.{false};
-ghost use Rattle.paged_memory.specs.access.Access.{HasPage, KeepsBare, MarksUse, TakesStores, cache_of};
+ghost use Rattle.paged_memory.specs.access.Access.{HasPage, KeepsBare, MarksUse, Serves};
+ghost use Rattle.paged_memory.specs.access.Access.{TakesStores, cache_of};
 ghost use Rattle.std.specs.Prelude.{ℕ, drop};
 ghost use Rattle.page_memory.specs.Words.{page_number, page_offset, bytes_in};
 ghost use Rattle.page_memory.specs.Pages.{overwritten, stored, replaced, copied_in};
@@ -61,9 +62,8 @@ fn put_bytes_in<L: Ledger, S: SwapSlot>(page: &mut StoredPage<L, S>, offset: usi
     ensures { page.new ≡ with_bytes page.old (overwritten
         (content S.content page.old) offset from.now) }
 {
-    match page.bytes_mut() {
-        Some(bytes) => put_bytes(bytes, offset, from),
-        None => unreachable!(),
+    if let Some(bytes) = page.bytes_mut() {
+        put_bytes(bytes, offset, from);
     }
 }
 
@@ -144,6 +144,8 @@ pub(crate) fn store_ready<L: Ledger, S: SwapSlot>(
     ensures marked { result ≡ true → MarksUse pages.old tables.now (cache_of caches.now hart)
         Access.Store (page_number address) }
     ensures takes { result ≡ true → TakesStores pages.old tables.now (page_number address) }
+    ensures serves { result ≡ true → Serves (cache_of caches.now hart) Access.Store
+        (page_number address) }
     ensures bare { result ≡ true → KeepsBare (page_number address) pages.old pages.new }
     ensures other { result ≡ false → pages.new ≡ pages.old }
 {

@@ -97,18 +97,25 @@ module _ {S : Type 0} (held : S → List ℕ) where
     pub marks_few : length (marks_at core) ≤ most_harts
     marks_few = subst (λ l. length l ≤ most_harts) (sym marks_shown) shows.whole.few
 
-    pub turn_shown : (full : Bool) (hart next : ℕ) → next_live hart (marks_at core) ≡ Some next → turn_after hart (shown_as full (flat_at core)) ≡ next
-    turn_shown full hart next e = sym (full_turn full hart (flat_at core)) ∙ ap (λ l. unwrap_or (next_live hart l) hart) (sym marks_shown) ∙ ap (λ o. unwrap_or o hart) e
+    pub turn_shown : (full : Bool) (hart : ℕ) → unwrap_or (next_live hart (marks_at core)) hart ≡ turn_after hart (shown_as full (flat_at core))
+    turn_shown full hart = ap (λ l. unwrap_or (next_live hart l) hart) marks_shown ∙ full_turn full hart (flat_at core)
 
-    pub turn_lives : (full : Bool) (hart next : ℕ) → next_live hart (marks_at core) ≡ Some next → is_live next (shown_as full (flat_at core)) ≡ true
-    turn_lives full hart next e = sym (full_live full next (flat_at core)) ∙ ap (λ l. slice_index_or l next false) (sym marks_shown) ∙ next_is_live hart (marks_at core) next e
+    next_lives : (full : Bool) (hart next : ℕ) → next_live hart (marks_at core) ≡ Some next → is_live next (shown_as full (flat_at core)) ≡ true
+    next_lives full hart next e = sym (full_live full next (flat_at core)) ∙ ap (λ l. slice_index_or l next false) (sym marks_shown) ∙ next_is_live hart (marks_at core) next e
 
-    pub turn_there : (hart : ℕ) → next_live hart (marks_at core) ≡ None → ⊥
+    turn_there : (hart : ℕ) → next_live hart (marks_at core) ≡ None → ⊥
     turn_there hart e = no_turn (next_live hart (marks_at core)) (next_is_some hart (marks_at core) (ap any_live marks_shown ∙ shows.whole.some)) e
       where
         no_turn : (o : Option ℕ) → IsSome o → o ≡ None → ⊥
         no_turn None some e = true≢false (sym some)
         no_turn (Some x) some e = cc
+
+    pub turn_lives : (full : Bool) (hart : ℕ) → is_live (unwrap_or (next_live hart (marks_at core)) hart) (shown_as full (flat_at core)) ≡ true
+    turn_lives full hart = by (next_live hart (marks_at core)) refl
+      where
+        by : (o : Option ℕ) → next_live hart (marks_at core) ≡ o → is_live (unwrap_or o hart) (shown_as full (flat_at core)) ≡ true
+        by None e = absurd (turn_there hart e)
+        by (Some next) e = next_lives full hart next e
 
     pub harts_shown : (full : Bool) (hart : ℕ) → option_and_then (λ (side : SpaceValue S). slice_get side.running.harts hart) (slice_get core.processes 0) ≡ hart_registers hart (shown_as full (flat_at core))
     harts_shown full hart =

@@ -112,10 +112,7 @@ impl<L: Ledger, C: Clock> Target for PagedTarget<L, C> {
 
     fn turn_after(&self, hart: u32) -> u32 {
         self.core.faithful();
-        match next_live(&self.core, hart) {
-            Some(next) => next,
-            None => unreachable!(),
-        }
+        next_live(&self.core, hart).unwrap_or(hart)
     }
 
     fn is_mapped(&self, address: u32) -> bool {

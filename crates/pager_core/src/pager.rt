@@ -56,7 +56,7 @@ impl<L: Ledger, C: Clock> Pager<L, C> {
                     questions: 0,
                 },
             }),
-            Err(NewRefusal::BadSize) => unreachable!(),
+            Err(NewRefusal::BadSize) => Err(PoolError::BadSize),
             Err(NewRefusal::NoMemory) => Err(PoolError::NoMemory),
         }
     }

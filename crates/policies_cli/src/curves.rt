@@ -81,7 +81,7 @@ fn optimum_where(
 }
 
 /// The same where it is.
-#[tactic(auto, using(whole_strings::specs::OptimumCurveLaws::no_curve))]
+#[tactic(auto, using(whole_strings::proofs::OptimumCurveLaws::no_curve))]
 fn optimum_up_to(alloc: Global, string: &[Key], pages: usize) -> Result<Vec<usize>, AllocError>
     requires { pages ≤ most_policy_frames }
     ensures { IfOk result (λ curve. IsOptimumCurve pages curve.items string.now) }

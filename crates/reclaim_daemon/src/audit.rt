@@ -29,7 +29,7 @@ impl<L: Ledger, S: SwapSlot, C: Clock> Shared<L, S, C> {
         };
         'processes: for number in 0..self.locks.count() {
             let Some(lock) = self.locks.get(number) else {
-                unreachable!()
+                return false;
             };
             let held = lock.lock(rt);
             match count_more(desk, number, &*held, found) {

@@ -4,3 +4,4 @@ pub mod AccessLaws
 pub mod BoundsLaws
 pub mod LeavesLaws
 pub mod Replacing
+pub mod RegistersLaws

@@ -1,6 +1,7 @@
 -- A hart's registers (unprivileged manual, "Programmers' Model for Base Integer ISA"): pc and x1 to x31.
 -- x0 is no register of the state: it reads 0, and what is written to it is lost.
-use Rattle.std.specs.Prelude.{ℕ, zero, suc, ◌+◌, ◌%◌, ◌^◌, List, slice_index, slice_set, replicate}
+use Rattle.std.specs.Prelude.{◌≡◌, ℕ, zero, suc, ◌+◌, ◌%◌, ◌^◌, List, [], ◌∷◌, drop, length, slice_index, slice_set, replicate}
+use Rattle.std.proofs.Common.{arith, ap, sym}
 
 pub record Registers : Type 0 where
   pub pc : ℕ
@@ -27,3 +28,8 @@ next_pc regs = (regs.pc + 4) % 2 ^ 32
 -- the registers of a hart that has run nothing: all are 0 but pc
 unfoldable pub cleared : ℕ → Registers
 cleared pc = record { pc = pc; x = replicate 31 0 }
+
+-- of an array of 32 words, whose first stays 0, nothing else is left out
+pub with_zero : (xs : List ℕ) → length xs ≡ 32 → slice_index xs 0 ≡ 0 → 0 ∷ drop 1 xs ≡ xs
+with_zero [] wide h = absurd (omega arith)
+with_zero (x ∷ xs) wide h = ap (λ y. y ∷ xs) (sym h)

@@ -10,7 +10,7 @@ use rv_isa::Reg;
 
 /// The value of a register that an instruction names, whatever pc is.
 #[inline(always)]
-#[tactic(auto, using(crate::specs::RegistersLaws::read_aside))]
+#[tactic(auto, using(crate::proofs::RegistersLaws::read_aside))]
 pub fn read(pc: u32, regs: &Regs, named: Reg) -> u32
     ensures { result ≡ register (with_pc regs.now pc) named }
 {
@@ -20,7 +20,7 @@ pub fn read(pc: u32, regs: &Regs, named: Reg) -> u32
 
 /// Moves pc on.
 #[inline(always)]
-#[tactic(auto, using(crate::specs::RegistersLaws::advanced))]
+#[tactic(auto, using(crate::proofs::RegistersLaws::advanced))]
 pub fn advance(pc: &mut u32, regs: &Regs) -> Outcome
     ensures done { result ≡ Outcome.Done }
     ensures moved { with_pc regs.now pc.new ≡ with_pc (with_pc regs.now pc.old)
@@ -33,7 +33,7 @@ pub fn advance(pc: &mut u32, regs: &Regs) -> Outcome
 
 /// Writes a value to rd, and moves pc on.
 #[inline(always)]
-#[tactic(auto, using(crate::specs::RegistersLaws::computed_aside))]
+#[tactic(auto, using(crate::proofs::RegistersLaws::computed_aside))]
 pub fn compute(pc: &mut u32, regs: &mut Regs, rd: Reg, value: u32) -> Outcome
     ensures done { result ≡ Outcome.Done }
     ensures written { with_pc regs.new pc.new ≡ computed (with_pc regs.old pc.old) rd value }
@@ -45,7 +45,7 @@ pub fn compute(pc: &mut u32, regs: &mut Regs, rd: Reg, value: u32) -> Outcome
 
 /// Goes to a target, and writes the address of the next instruction to the register of this number.
 #[inline(always)]
-#[tactic(auto, using(crate::specs::RegistersLaws::landed_aside))]
+#[tactic(auto, using(crate::proofs::RegistersLaws::landed_aside))]
 pub fn land(pc: &mut u32, regs: &mut Regs, link: u8, target: u32)
     requires { link < 32 }
     ensures { with_pc regs.new pc.new ≡ with_register (with_pc (with_pc regs.old pc.old) target)

@@ -29,7 +29,7 @@ impl Model for Regs {
 
     ghost use Rattle.std.proofs.Common.{ap};
     ghost use Rattle.rv_exec.specs.declared.regs.Regs.TheInside.{Inside};
-    ghost use Rattle.rv_exec.specs.RegistersLaws.{with_zero};
+    ghost use Rattle.rv_exec.specs.Registers.{with_zero};
 
     ghost inverse_ok = { λ regs lawful.
         ap (λ x. let inside : Inside = record { pc = regs.pc; x = x } in inside)
@@ -96,7 +96,7 @@ impl Regs {
 
     /// The value of a register by its number: 0 for `x0`.
     #[inline]
-    #[tactic(auto, using(crate::specs::RegistersLaws::read_at))]
+    #[tactic(auto, using(crate::proofs::RegistersLaws::read_at))]
     pub fn x(&self, number: u8) -> u32
         requires { number < 32 }
         ensures { result ≡ register self.now number }
@@ -106,7 +106,7 @@ impl Regs {
 
     /// Writes a register by its number; what is written to `x0` is lost.
     #[inline]
-    #[tactic(auto, using(crate::specs::RegistersLaws::written_at))]
+    #[tactic(auto, using(crate::proofs::RegistersLaws::written_at))]
     pub fn set_x(&mut self, number: u8, value: u32)
         requires { number < 32 }
         ensures { self.new ≡ with_register self.old number value }
@@ -117,7 +117,7 @@ impl Regs {
 
     /// Writes a register by its number, which is not that of `x0`: no other register is touched.
     #[inline(always)]
-    #[tactic(auto, using(crate::specs::RegistersLaws::put_at))]
+    #[tactic(auto, using(crate::proofs::RegistersLaws::put_at))]
     pub fn put(&mut self, number: u8, value: u32)
         requires above { 0 < number }
         requires below { number < 32 }

@@ -2,7 +2,7 @@
 use Rattle.std.proofs.Common.{◌≡◌, ℕ, true, false, List, [], ◌∷◌, ◌++◌, inl, inr, refl, ap, ◌∙◌, subst, append_assoc}
 use Rattle.std.proofs.lemmas.List.Elements.{All-append, All-nil, All-cons}
 use Rattle.flat_machine.specs.Schedule.{written_out}
-use Rattle.machine_core.specs.ApplyingLaws.{runs_none, runs_one, runs_on}
+use Rattle.machine_core.proofs.ApplyingLaws.{runs_none, runs_one, runs_on}
 use Rattle.machine_core.specs.Headline.{adds, has_run, HappensInvisibly, Remains}
 use Rattle.machine_core.specs.Machine.{CoreValue}
 use Rattle.machine_core.proofs.OrderLaws.{still_remains}

@@ -5,7 +5,7 @@ use Rattle.flat_machine.specs.declared.end.KillCause.TheVariants as cause
 use Rattle.machine_core.specs.declared.event.Event.TheVariants.{Kill, Purge}
 use Rattle.machine_core.specs.declared.event.Reply.{Reply}
 use Rattle.machine_core.specs.Applying.{Applies, Runs}
-use Rattle.machine_core.specs.ApplyingLaws.{runs_none, runs_one, runs_on, runs_more}
+use Rattle.machine_core.proofs.ApplyingLaws.{runs_none, runs_one, runs_on, runs_more}
 use Rattle.machine_core.specs.Machine.{CoreValue}
 use Rattle.serial_driver.specs.Closing.{goes_on, kill_of, closing_below}
 use Rattle.serial_driver.specs.Limit.{ClosesBelow, EndsOne}

@@ -7,7 +7,7 @@ use Rattle.machine_core.specs.declared.event.Event.{Event}
 use Rattle.machine_core.specs.declared.event.Event.TheVariants.{Step, Saved}
 use Rattle.machine_core.specs.declared.event.Reply.{Reply}
 use Rattle.machine_core.specs.Applying.{Applies, Runs, LeadsTo}
-use Rattle.machine_core.specs.ApplyingLaws.{reaches_same}
+use Rattle.machine_core.proofs.ApplyingLaws.{reaches_same}
 use Rattle.machine_core.specs.Machine.{CoreValue}
 use Rattle.machine_core.specs.ManySteps.{steps_of, replies_of}
 use Rattle.serial_driver.specs.Closing.{is_limit_kill}

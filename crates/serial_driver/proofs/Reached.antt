@@ -3,7 +3,7 @@ use Rattle.std.proofs.Common.{ℕ, List}
 use Rattle.machine_core.specs.declared.event.Event.{Event}
 use Rattle.machine_core.specs.declared.event.Reply.{Reply}
 use Rattle.machine_core.specs.Applying.{Applies, Runs, LeadsTo}
-use Rattle.machine_core.specs.ApplyingLaws.{reaches_same, reaches_more, reaches_on}
+use Rattle.machine_core.proofs.ApplyingLaws.{reaches_same, reaches_more, reaches_on}
 use Rattle.machine_core.specs.Machine.{CoreValue}
 
 module _ {S : Type 0} (held : S → List ℕ) (honest : Type 0) (failures : S → ℕ) where

@@ -3,7 +3,7 @@ use Rattle.std.proofs.Common.{◌≡◌, ℕ, suc, ◌+◌, ◌-◌, ◌*◌, �
 use Rattle.std.proofs.lemmas.List.Elements.{All-head, All-tail}
 use Rattle.flat_machine.specs.declared.end.KillCause.TheVariants as cause
 use Rattle.machine_core.specs.Applying.{Applies, LeadsTo}
-use Rattle.machine_core.specs.ApplyingLaws.{reaches_more}
+use Rattle.machine_core.proofs.ApplyingLaws.{reaches_more}
 use Rattle.machine_core.specs.Machine.{CoreValue}
 use Rattle.machine_core.specs.declared.event.Event.{Event}
 use Rattle.machine_core.specs.declared.event.Event.TheVariants.{Kill}

@@ -34,7 +34,7 @@ pub enum NoReport {
 }
 
 /// Plays a machine as [`play`] does, and tells what it has come to.
-#[tactic(auto, using(machine_core::specs::ApplyingLaws::reaches_same))]
+#[tactic(auto, using(machine_core::proofs::ApplyingLaws::reaches_same))]
 pub fn run_serial<L: Ledger, S: SwapSlot, C: Clock>(
     alloc: Global,
     core: &mut Core<L, S, C>,

@@ -29,7 +29,7 @@ module _ {S : Type 0} (held : S → List ℕ) (honest : Type 0) (hart : ℕ) whe
       memory_stays = tt;
       pages = (
         λ k d h. (step.used k d h).1.has,
-        λ k d h. let serves = (step.used k d h).1 in marked_still hart a.1 b.1 step.stayed (step.used k d h).0 _ serves.small serves.marked,
+        λ k d h. marked_still hart a.1 b.1 step.stayed (step.used k d h).0 _ (step.used k d h).1,
       );
       bound = record { bound = λ use_test store_test used stored old. subst (λ (m : PagedValue S). MarkedIn m use_test store_test) (sym step.stayed.only) old };
     };

@@ -243,7 +243,7 @@ module _ {S : Type 0} (held : S → List ℕ) (honest : Type 0) (hart : ℕ) whe
             (bound_then (MarkedIn old.memory) (MarkedIn between.memory) (MarkedIn new.memory) hart n (begun why ran) before (shown_process held between) all.ran_is all.bound one.bound);
         takes = subst (λ k. EachStep (λ at. All (TakesIn new.memory) (next_stores hart at)) hart k before) (answered_then why n ran)
             (each_append (λ at. All (TakesIn new.memory) (next_stores hart at)) hart n (answered why ran) before (shown_process held between)
-            (λ done at h e k d w. takes_with _ between.memory new.memory one.kept.pages one.kept.changed (all.takes done at h e k d w)) all.ran_is one.takes);
+            (λ done at h e k d w. takes_with _ between.memory new.memory one.kept.pages one.kept.changed (all.takes done at h e k d w)) all.ran_is (λ done at h e k d w. (one.takes done at h e k d w).0));
         kept = kept_then why old between new all.kept one.kept;
         stands = one.stands;
         coheres = one.coheres;

@@ -2,6 +2,7 @@
 use Rattle.std.proofs.Common.{◌≡◌, ◌≤◌, ◌<◌, ℕ, true, List, length, slice_set, slice_index_or, Option, Some, Result, Ok, Err, inl, inr, ap, ◌∙◌, refl, sym, subst, arith}
 use Rattle.std.proofs.lemmas.Option.{same_Some, slice_get-get_or}
 use Rattle.page_memory.specs.Memory.{Memory}
+use Rattle.page_memory.specs.declared.words.Access.{Access}
 use Rattle.rv_exec.specs.declared.outcome.Outcome.{Outcome}
 use Rattle.rv_exec.specs.declared.outcome.Outcome.TheVariants as outcome
 use Rattle.rv_exec.specs.Outcomes.{Used}
@@ -26,10 +27,12 @@ use Rattle.flat_machine.specs.Process.{Process, IsWhole, may_step}
 use Rattle.flat_machine.proofs.RunLaws.{flat_run_none, one_more_step}
 use Rattle.flat_machine.specs.Settling.{harts_after, ending_after, IfSpawns}
 use Rattle.flat_machine.proofs.SettlingLaws.{room_to_spawn, settled, harts_stay}
-use Rattle.paged_memory.specs.access.HartMemory.{KeepsAccess, MarksSince}
-use Rattle.paged_memory.specs.access.HartMemoryLaws.{access_on, served_before}
-use Rattle.paged_memory.specs.access.Missing.{MissesIn, TakesIn}
-use Rattle.paged_memory.specs.access.MissingLaws.{takes_kept}
+use Rattle.paged_memory.specs.access.HartMemory.{KeepsAccess, UsedSince}
+use Rattle.paged_memory.specs.access.HartMemoryLaws.{access_on, served_before, used_since}
+use Rattle.paged_memory.proofs.access_laws.ShownLaws.{shown_back}
+use Rattle.paged_memory.specs.access.Missing.{MissesIn, TakesSince}
+use Rattle.paged_memory.specs.access.MissingLaws.{since_kept}
+use Rattle.paged_memory.proofs.access_laws.StoredLaws.{since_back}
 use Rattle.paged_memory.specs.Paged.{PagedValue, memory_of}
 use Rattle.paged_memory.specs.access.Using.{cache_in, HasIn, LacksIn, MarkedIn}
 use Rattle.paged_memory.proofs.access_laws.UsingLaws.{lacked_in, had_in}
@@ -63,6 +66,16 @@ rest_marked has marks lacks marks' outcome.Ecall regs memory result marked uses 
 rest_marked has marks lacks marks' (outcome.Trap cause value) regs memory result marked uses = uses
 rest_marked has marks lacks marks' (outcome.Absent page) regs memory result marked uses = uses
 
+-- what takes stores otherwise too
+rest_takes : {A : Type 0} (takes takes' : ℕ → Type 0) (misses : List ℕ → Access → ℕ → Type 0) (o : Outcome) (regs : Registers) (memory : Memory) (result : Result A ServeStop) → ((page : ℕ) → takes page → takes' page)
+    → LeavesRest takes misses o regs memory result → LeavesRest takes' misses o regs memory result
+rest_takes takes takes' misses outcome.Done regs memory result on leaves = tt
+rest_takes takes takes' misses outcome.Ecall regs memory (Ok answer) on leaves = λ k d h. on _ (leaves k d h)
+rest_takes takes takes' misses outcome.Ecall regs memory (Err (serve.Absent page)) on leaves = leaves
+rest_takes takes takes' misses outcome.Ecall regs memory (Err serve.NoMemory) on leaves = λ k d h. on _ (leaves k d h)
+rest_takes takes takes' misses (outcome.Trap cause value) regs memory result on leaves = tt
+rest_takes takes takes' misses (outcome.Absent page) regs memory result on leaves = tt
+
 no_want : {A : Type 0} (a : A) → ◌≡◌ {A = Result A ServeStop} (Ok a) (Err serve.NoMemory) → ⊥
 no_want a same = cc
 
@@ -70,32 +83,35 @@ module _ {S : Type 0} (held : S → List ℕ) (honest : Type 0) (hart : ℕ) whe
   -- a step of a hart with these registers, on its process's memory
   abbrev pub StepOn : RunningValue → PagedValue S → PagedValue S → Registers → Result Stepped ServeStop → Registers → Environment → Type 0
   StepOn old before after r result regs env =
-      IsStep (HasIn before hart) (MarksSince after (cache_in before hart)) (LacksIn before) (MarkedIn before) (MarkedIn after) hart r old.environment (memory_of held before) result regs env (memory_of held after)
+      IsStep (HasIn before hart) (UsedSince hart after (cache_in before hart)) (LacksIn before) (MarkedIn before) (MarkedIn after) hart r old.environment (memory_of held before) result regs env (memory_of held after)
 
-  marks_back : (before between after : PagedValue S) → KeepsAccess hart before between → (page : ℕ) → MarksSince after (cache_in between hart) page → MarksSince after (cache_in before hart) page
-  marks_back before between after kept page marks = (marks.0, elim marks.1 [ inl used ↦ inl used | inr served ↦ inr (served_before page (cache_in between hart) (cache_in before hart) kept.goes.doomed served) ])
+  marks_back : (before between after : PagedValue S) → KeepsAccess hart before between → (page : ℕ) → UsedSince hart after (cache_in between hart) page → UsedSince hart after (cache_in before hart) page
+  marks_back before between after kept page used = (
+    (used.0.0, elim used.0.1 [ inl set ↦ inl set | inr served ↦ inr (served_before page (cache_in between hart) (cache_in before hart) kept.goes.doomed served) ]),
+    shown_back (cache_in before hart) (cache_in between hart) (cache_in after hart) page kept.goes.filled used.1,
+  )
 
-  marks_on : (before between after : PagedValue S) → KeepsAccess hart between after → (page : ℕ) → MarksSince between (cache_in before hart) page → MarksSince after (cache_in before hart) page
-  marks_on before between after kept page marks = (marks.0, elim marks.1 [ inl used ↦ inl (kept.used page marks.0 used) | inr doomed ↦ inr doomed ])
+  marks_on : (before between after : PagedValue S) → KeepsAccess hart between after → (page : ℕ) → UsedSince hart between (cache_in before hart) page → UsedSince hart after (cache_in before hart) page
+  marks_on before between after kept page used = used_since hart page (cache_in before hart) between after kept used
 
   -- an instruction and the rest of its step
   pub step_of : (o : Outcome) (old : RunningValue) (between after : PagedValue S) (r : Registers) (result : Result Stepped ServeStop) (regs : Registers) (env : Environment)
       → hart < length old.harts → r ≡ slice_index_or old.harts hart r → (left : LeftBy held honest hart o old between)
-      → IsRest (HasIn between hart) (MarksSince after (cache_in between hart)) (LacksIn between) (MarkedIn between) (MarkedIn after) hart o r old.environment (memory_of held between) result regs env (memory_of held after)
+      → IsRest (HasIn between hart) (UsedSince hart after (cache_in between hart)) (LacksIn between) (MarkedIn between) (MarkedIn after) hart o r old.environment (memory_of held between) result regs env (memory_of held after)
       → KeepsAccess hart between after → StepOn old left.before after r result regs env
   step_of o old between after r result regs env within are left rest kept =
       let before = left.before in
       let same : left.regs ≡ r = same_Some _ _ (ap Some left.are ∙ sym (slice_get-get_or old.harts hart left.regs within) ∙ slice_get-get_or old.harts hart r within ∙ ap Some (sym are)) in
-      step_then (HasIn before hart) (MarksSince between (cache_in before hart)) (LacksIn before) (HasIn between hart) (MarksSince after (cache_in before hart)) (LacksIn between)
+      step_then (HasIn before hart) (UsedSince hart between (cache_in before hart)) (LacksIn before) (HasIn between hart) (UsedSince hart after (cache_in before hart)) (LacksIn between)
       (MarkedIn before) (MarkedIn between) (MarkedIn after) hart r old.environment (memory_of held before) r (memory_of held between) result regs env (memory_of held after)
       (λ page has. had_in hart page before between left.runs.kept has) (λ page lacks. lacked_in before between page left.runs.kept.pages lacks) (marks_on before between after kept) o
-      (subst (λ x. CameTo (HasIn before hart) (MarksSince between (cache_in before hart)) (LacksIn before) (MarkedIn before) (MarkedIn between) hart o x (memory_of held before) x (memory_of held between)) same left.runs.came)
+      (subst (λ x. CameTo (HasIn before hart) (UsedSince hart between (cache_in before hart)) (LacksIn before) (MarkedIn before) (MarkedIn between) hart o x (memory_of held before) x (memory_of held between)) same left.runs.came)
       (record {
         stepped = rest.stepped;
         regs_stay = rest.regs_stay;
         env_stays = rest.env_stays;
         memory_stays = rest.memory_stays;
-        pages = rest_marked (HasIn between hart) (MarksSince after (cache_in between hart)) (LacksIn between) (MarksSince after (cache_in before hart)) o r (memory_of held between) result (marks_back before between after left.runs.kept) rest.pages;
+        pages = rest_marked (HasIn between hart) (UsedSince hart after (cache_in between hart)) (LacksIn between) (UsedSince hart after (cache_in before hart)) o r (memory_of held between) result (marks_back before between after left.runs.kept) rest.pages;
         bound = rest.bound;
         no_memory = rest.no_memory;
       })
@@ -103,19 +119,20 @@ module _ {S : Type 0} (held : S → List ℕ) (honest : Type 0) (hart : ℕ) whe
   -- what they leave, from below
   pub leaves_of : (o : Outcome) (old : RunningValue) (between after : PagedValue S) (r : Registers) (result : Result Stepped ServeStop) (regs : Registers) (env : Environment)
       → hart < length old.harts → r ≡ slice_index_or old.harts hart r → (left : LeftBy held honest hart o old between)
-      → IsRest (HasIn between hart) (MarksSince after (cache_in between hart)) (LacksIn between) (MarkedIn between) (MarkedIn after) hart o r old.environment (memory_of held between) result regs env (memory_of held after)
-      → LeavesRest (TakesIn after) (MissesIn between hart) o r (memory_of held between) result → KeepsAccess hart between after
+      → IsRest (HasIn between hart) (UsedSince hart after (cache_in between hart)) (LacksIn between) (MarkedIn between) (MarkedIn after) hart o r old.environment (memory_of held between) result regs env (memory_of held after)
+      → LeavesRest (TakesSince after (cache_in between hart)) (MissesIn between hart) o r (memory_of held between) result → KeepsAccess hart between after
       → LeavesOf hart (with_memory old (memory_of held left.before)) r left.before after result
   leaves_of o old between after r result regs env within are left rest leaves kept =
       let before = left.before in
       let same : left.regs ≡ r = same_Some _ _ (ap Some left.are ∙ sym (slice_get-get_or old.harts hart left.regs within) ∙ slice_get-get_or old.harts hart r within ∙ ap Some (sym are)) in
-      leaves_then (HasIn before hart) (MarksSince between (cache_in before hart)) (LacksIn before) (HasIn between hart) (MarksSince after (cache_in between hart)) (LacksIn between) (MarksSince after (cache_in before hart))
-      (MarkedIn before) (MarkedIn between) (MarkedIn after) (TakesIn between) (TakesIn after) (MissesIn before hart) (MissesIn between hart) hart r old.environment (memory_of held before) r (memory_of held between) result regs env (memory_of held after)
-      (λ page taken. takes_kept hart page between after kept taken) (marks_on before between after kept) o
-      (subst (λ x. CameTo (HasIn before hart) (MarksSince between (cache_in before hart)) (LacksIn before) (MarkedIn before) (MarkedIn between) hart o x (memory_of held before) x (memory_of held between)) same left.runs.came)
+      leaves_then (HasIn before hart) (UsedSince hart between (cache_in before hart)) (LacksIn before) (HasIn between hart) (UsedSince hart after (cache_in between hart)) (LacksIn between) (UsedSince hart after (cache_in before hart))
+      (MarkedIn before) (MarkedIn between) (MarkedIn after) (TakesSince between (cache_in before hart)) (TakesSince after (cache_in before hart)) (MissesIn before hart) (MissesIn between hart) hart r old.environment (memory_of held before) r (memory_of held between) result regs env (memory_of held after)
+      (λ page taken. since_kept hart page (cache_in before hart) between after kept taken) (marks_on before between after kept) o
+      (subst (λ x. CameTo (HasIn before hart) (UsedSince hart between (cache_in before hart)) (LacksIn before) (MarkedIn before) (MarkedIn between) hart o x (memory_of held before) x (memory_of held between)) same left.runs.came)
       rest
-      (subst (λ (x : Registers). LeavesPages (TakesIn between) (MarksSince between (cache_in before hart)) (MissesIn before hart) (MissesIn between hart) (page_number x.pc) (pages_stored x (memory_of held before)) o) same left.runs.leaves)
-      leaves
+      (subst (λ (x : Registers). LeavesPages (TakesSince between (cache_in before hart)) (UsedSince hart between (cache_in before hart)) (MissesIn before hart) (MissesIn between hart) (page_number x.pc) (pages_stored x (memory_of held before)) o) same left.runs.leaves)
+      (rest_takes (TakesSince after (cache_in between hart)) (TakesSince after (cache_in before hart)) (MissesIn between hart) o r (memory_of held between) result
+      (λ page taken. since_back held honest hart page before between after left.runs.kept left.runs.coheres kept taken) leaves)
 
   -- ---- in a process
 
@@ -139,7 +156,7 @@ module _ {S : Type 0} (held : S → List ℕ) (honest : Type 0) (hart : ℕ) whe
         ends = record {
           step = done.step;
           progress = progressed hart old old memory r regs env memory' s refl now step.stepped;
-          pages = used_pages (HasIn before hart) (MarksSince after (cache_in before hart)) hart (with_memory old memory) r now step.pages;
+          pages = used_pages (HasIn before hart) (UsedSince hart after (cache_in before hart)) hart (with_memory old memory) r now step.pages;
           bound = next_bound (MarkedIn before) (MarkedIn after) hart (with_memory old memory) r now step.bound;
           leaves = next_taken hart (with_memory old memory) r before after s (progress_of_step s) now leaves;
           wants = λ never. absurd (no_want _ never);
@@ -162,7 +179,7 @@ module _ {S : Type 0} (held : S → List ℕ) (honest : Type 0) (hart : ℕ) whe
       record {
         step = tt;
         progress = tt;
-        pages = stopped_pages (HasIn before hart) (MarksSince after (cache_in before hart)) (LacksIn before) hart (with_memory old memory) r why now step.pages;
+        pages = stopped_pages (HasIn before hart) (UsedSince hart after (cache_in before hart)) (LacksIn before) hart (with_memory old memory) r why now step.pages;
         bound = next_bound (MarkedIn before) (MarkedIn after) hart (with_memory old memory) r now step.bound;
         leaves = next_not_taken hart (with_memory old memory) r before after why now leaves;
         wants = wants_memory hart old old memory r why refl may now step.no_memory;
@@ -187,8 +204,8 @@ module _ {S : Type 0} (held : S → List ℕ) (honest : Type 0) (hart : ℕ) whe
 
   pub ended : (o : Outcome) (inside now : RunningValue) (between after : PagedValue S) (r : Registers) (s : Stepped) (regs : Registers) (env : Environment) → inside ≡ now → ((memory : Memory) → IsWhole (with_memory inside memory))
       → may_step hart (with_memory now (memory_of held between)) ≡ true → r ≡ slice_index_or inside.harts hart r → (left : LeftBy held honest hart o now between)
-      → IsRest (HasIn between hart) (MarksSince after (cache_in between hart)) (LacksIn between) (MarkedIn between) (MarkedIn after) hart o r inside.environment (memory_of held between) (Ok s) regs env (memory_of held after)
-      → LeavesRest (TakesIn after) (MissesIn between hart) o r (memory_of held between) (Ok s) → KeepsAccess hart between after → Took s inside now left.before regs env after
+      → IsRest (HasIn between hart) (UsedSince hart after (cache_in between hart)) (LacksIn between) (MarkedIn between) (MarkedIn after) hart o r inside.environment (memory_of held between) (Ok s) regs env (memory_of held after)
+      → LeavesRest (TakesSince after (cache_in between hart)) (MissesIn between hart) o r (memory_of held between) (Ok s) → KeepsAccess hart between after → Took s inside now left.before regs env after
   ended o inside now between after r s regs env same whole may are left rest leaves kept =
       let before = left.before in
       let memory = memory_of held before in
@@ -203,8 +220,8 @@ module _ {S : Type 0} (held : S → List ℕ) (honest : Type 0) (hart : ℕ) whe
 
   pub not_ended : (o : Outcome) (inside now : RunningValue) (between after : PagedValue S) (r : Registers) (why : ServeStop) (regs : Registers) (env : Environment) → inside ≡ now → ((memory : Memory) → IsWhole (with_memory inside memory))
       → may_step hart (with_memory now (memory_of held between)) ≡ true → r ≡ slice_index_or inside.harts hart r → (left : LeftBy held honest hart o now between)
-      → IsRest (HasIn between hart) (MarksSince after (cache_in between hart)) (LacksIn between) (MarkedIn between) (MarkedIn after) hart o r inside.environment (memory_of held between) (Err why) regs env (memory_of held after)
-      → LeavesRest {A = Stepped} (TakesIn after) (MissesIn between hart) o r (memory_of held between) (Err why) → KeepsAccess hart between after
+      → IsRest (HasIn between hart) (UsedSince hart after (cache_in between hart)) (LacksIn between) (MarkedIn between) (MarkedIn after) hart o r inside.environment (memory_of held between) (Err why) regs env (memory_of held after)
+      → LeavesRest {A = Stepped} (TakesSince after (cache_in between hart)) (MissesIn between hart) o r (memory_of held between) (Err why) → KeepsAccess hart between after
       → EndsStep held honest hart (Err why) now left.before (record { harts = slice_set inside.harts hart regs; environment = env; ending = inside.ending }) after
   not_ended o inside now between after r why regs env same whole may are left rest leaves kept =
       let before = left.before in
@@ -237,8 +254,8 @@ module _ {S : Type 0} (held : S → List ℕ) (honest : Type 0) (hart : ℕ) whe
       → AtAbsent why (MissesNext hart (with_memory old (memory_of held before)) before after) → EndsStep held honest hart (Ok what) old before new after → EndsOne held honest hart fits 1 why old before new after
   ran_one fits some what why old before new after answers begins stops missed ends =
       let p : Process = with_memory old (memory_of held before) in
-      let P : Process → Type 0 = λ at. Used (HasIn before hart) (MarksSince after (cache_in before hart)) (next_pages hart at) in
-      let Q : Process → Type 0 = λ at. All (TakesIn after) (next_stores hart at) in
+      let P : Process → Type 0 = λ at. Used (HasIn before hart) (UsedSince hart after (cache_in before hart)) (next_pages hart at) in
+      let Q : Process → Type 0 = λ at. All (TakesSince after (cache_in before hart)) (next_stores hart at) in
       record {
         ran_is = one_more_step 0 hart p p (with_memory new (memory_of held after)) (flat_run_none p) ends.step;
         within = omega arith;
@@ -275,8 +292,8 @@ module _ {S : Type 0} (held : S → List ℕ) (honest : Type 0) (hart : ℕ) whe
 
   -- one that did not run
   ran_none : (fits : ℕ) → 0 < fits → (why : SliceStop) (stopped : ServeStop) (old : RunningValue) (before : PagedValue S) (new : RunningValue) (after : PagedValue S) → begun why 0 ≡ 1
-      → EachStep (λ at. Used (HasIn before hart) (MarksSince after (cache_in before hart)) (next_pages hart at)) hart (answered why 0) (with_memory old (memory_of held before))
-      → EachStep (λ at. All (TakesIn after) (next_stores hart at)) hart (answered why 0) (with_memory old (memory_of held before)) → AtAbsent why (MissesNext hart (with_memory old (memory_of held before)) before after)
+      → EachStep (λ at. Used (HasIn before hart) (UsedSince hart after (cache_in before hart)) (next_pages hart at)) hart (answered why 0) (with_memory old (memory_of held before))
+      → EachStep (λ at. All (TakesSince after (cache_in before hart)) (next_stores hart at)) hart (answered why 0) (with_memory old (memory_of held before)) → AtAbsent why (MissesNext hart (with_memory old (memory_of held before)) before after)
       → StopsRecorded (LacksIn before) hart 1 fits (with_memory old (memory_of held before)) why 0 (with_memory old (memory_of held before))
       → EndsStep held honest hart (Err stopped) old before new after → EndsOne held honest hart fits 0 why old before new after
   ran_none fits some why stopped old before new after begins pages takes missed stops ends =
@@ -301,8 +318,8 @@ module _ {S : Type 0} (held : S → List ℕ) (honest : Type 0) (hart : ℕ) whe
       ((some, (record { fewer = omega arith; on = each_none (PassesOn hart) hart p; may = may }, ends.pages.0, ends.pages.1))) ends
   took_none fits some serve.NoMemory old before new after may ends =
       let p : Process = with_memory old (memory_of held before) in
-      let P : Process → Type 0 = λ at. Used (HasIn before hart) (MarksSince after (cache_in before hart)) (next_pages hart at) in
-      let Q : Process → Type 0 = λ at. All (TakesIn after) (next_stores hart at) in
+      let P : Process → Type 0 = λ at. Used (HasIn before hart) (UsedSince hart after (cache_in before hart)) (next_pages hart at) in
+      let Q : Process → Type 0 = λ at. All (TakesSince after (cache_in before hart)) (next_stores hart at) in
       ran_none fits some stop.NoMemory serve.NoMemory old before new after refl (each_more P hart 0 p p (each_none P hart p) (flat_run_none p) ends.pages)
       (each_more Q hart 0 p p (each_none Q hart p) (flat_run_none p) ends.leaves.leaves) tt
       ((some, (record { fewer = omega arith; on = each_none (PassesOn hart) hart p; may = may }, ends.wants refl))) ends
@@ -322,7 +339,7 @@ module _ {S : Type 0} (held : S → List ℕ) (honest : Type 0) (hart : ℕ) whe
         regs_stay = tt;
         env_stays = tt;
         memory_stays = tt;
-        pages = used_next (HasIn before hart) (MarksSince after (cache_in before hart)) hart r memory regs memory' runs.came.line_is runs.came.pages;
+        pages = used_next (HasIn before hart) (UsedSince hart after (cache_in before hart)) hart r memory regs memory' runs.came.line_is runs.came.pages;
         bound = bound_first (MarkedIn before) (MarkedIn after) hart r memory runs.came.bound;
         no_memory = λ never. absurd (no_want _ never);
-      }) (subst (All (TakesIn after)) (sym (stores_next hart r memory regs memory' runs.came.line_is)) runs.leaves) runs.kept).ends
+      }) (subst (All (TakesSince after (cache_in before hart))) (sym (stores_next hart r memory regs memory' runs.came.line_is)) runs.leaves) runs.kept).ends

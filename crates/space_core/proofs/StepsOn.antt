@@ -18,9 +18,9 @@ use Rattle.flat_machine.proofs.StepLaws.{started}
 use Rattle.flat_machine.proofs.TurnsLaws.{one_more}
 use Rattle.paged_memory.specs.Coheres.{Coheres}
 use Rattle.paged_memory.specs.cleaning.Copies.{KeepsCopies}
-use Rattle.paged_memory.specs.access.HartMemory.{MarksSince}
+use Rattle.paged_memory.specs.access.HartMemory.{MarksSince, UsedSince, WasShown}
 use Rattle.paged_memory.specs.access.HartMemoryLaws.{access_itself}
-use Rattle.paged_memory.specs.access.Missing.{TakesIn}
+use Rattle.paged_memory.specs.access.Missing.{TakesSince}
 use Rattle.paged_memory.specs.moves.Moving.{OnlyCaches, SameTablesIn}
 use Rattle.paged_memory.specs.Paged.{PagedValue, memory_of}
 use Rattle.paged_memory.proofs.ShowingLaws.{used_given_up}
@@ -211,10 +211,12 @@ module _ {S : Type 0} (held : S → List ℕ) (honest : Type 0) (hart : ℕ) whe
         left = left;
         within = ends.within;
         stops = subst (StopsRecorded (LacksIn old.memory) hart 1 (room old.schedule hart) p why ran) shown ends.stops;
-        pages = λ done at h e. used_on (HasIn old.memory hart) (MarksSince after (cache_in old.memory hart)) (HasIn old.memory hart) (MarksSince new (cache_in old.memory hart)) (next_pages hart at) (λ _ had. had)
-            (λ page marks. subst (λ (m : PagedValue S). MarksSince m (cache_in old.memory hart) page) (sym only) marks) (ends.pages done at h e);
+        pages = λ done at h e. used_on (HasIn old.memory hart) (UsedSince hart after (cache_in old.memory hart)) (HasIn old.memory hart) (MarksSince new (cache_in old.memory hart)) (next_pages hart at) (λ _ had. had)
+            (λ page used. subst (λ (m : PagedValue S). MarksSince m (cache_in old.memory hart) page) (sym only) used.0) (ends.pages done at h e);
         bound = same_marks new after (λ marks. BoundsEach (MarkedIn old.memory) marks hart (begun why ran) p) (sym (caches_marks after new only)) ends.bound;
-        takes = λ done at h e. takes_settled after new (next_stores hart at) only (ends.takes done at h e);
+        shown = λ budget done at h e k d w.
+            subst (λ c. WasShown (cache_in old.memory hart) c (slice_index_or (next_pages hart at) k d)) (sym (subst (λ stop. SettlesCaches stop hart after new) budget settles hart)) ((ends.pages done at h e).1 k d w).1;
+        takes = λ done at h e. takes_settled hart old.memory after new (next_stores hart at) only (ends.takes done at h e);
         missed = at_absent why (MissesNext hart p old.memory after) (MissesNext hart p old.memory new) (λ page was. misses_settled hart p old.memory after new page only was) ends.missed;
         kept = record {
           image = refl;
@@ -399,9 +401,9 @@ module _ {S : Type 0} (held : S → List ℕ) (honest : Type 0) (hart : ℕ) whe
         ran_is = flat_run_none p;
         within = omega arith;
         stops = stops;
-        pages = subst (λ n. EachStep (λ at. Used (HasIn old.memory hart) (MarksSince old.memory (cache_in old.memory hart)) (next_pages hart at)) hart n p) (sym answers) (each_none _ hart p);
+        pages = subst (λ n. EachStep (λ at. Used (HasIn old.memory hart) (UsedSince hart old.memory (cache_in old.memory hart)) (next_pages hart at)) hart n p) (sym answers) (each_none _ hart p);
         bound = bound_none (MarkedIn old.memory) hart (begun why 0) p;
-        takes = subst (λ n. EachStep (λ at. All (TakesIn old.memory) (next_stores hart at)) hart n p) (sym answers) (each_none _ hart p);
+        takes = subst (λ n. EachStep (λ at. All (TakesSince old.memory (cache_in old.memory hart)) (next_stores hart at)) hart n p) (sym answers) (each_none _ hart p);
         missed = none_absent why (MissesNext hart p old.memory old.memory) begins;
         kept = access_itself hart old.memory;
       }) is.stands (sym (append-nil (written_out old.schedule))) (omega arith) only settles cached coheres in

@@ -10,8 +10,8 @@ use Rattle.env_calls.specs.Serving.{UsesPages}
 use Rattle.flat_machine.specs.Process.{may_step, flat_step, flat_run}
 use Rattle.flat_machine.specs.Refusals.{WantsMemory}
 use Rattle.flat_machine.specs.Schedule.{written_out, room}
-use Rattle.paged_memory.specs.access.HartMemory.{KeepsAccess, MarksSince}
-use Rattle.paged_memory.specs.access.Missing.{TakesIn}
+use Rattle.paged_memory.specs.access.HartMemory.{KeepsAccess, UsedSince}
+use Rattle.paged_memory.specs.access.Missing.{TakesSince}
 use Rattle.paged_memory.specs.Paged.{PagedValue, memory_of}
 use Rattle.paged_memory.specs.access.Using.{cache_in, HasIn, LacksIn, MarkedIn}
 use Rattle.space_core.specs.declared.progress.Progress.{Progress}
@@ -36,7 +36,7 @@ module _ {S : Type 0} (held : S → List ℕ) (honest : Type 0) (hart : ℕ) whe
   pub record EndsStep (result : Result Progress ServeStop) (old : RunningValue) (before : PagedValue S) (new : RunningValue) (after : PagedValue S) : Type 0 where
     pub step : OnOk result (flat_step hart (with_memory old (memory_of held before)) ≡ Some (with_memory new (memory_of held after)))
     pub progress : IfOk result (λ progress. next_progress hart (with_memory old (memory_of held before)) ≡ Some progress)
-    pub pages : UsesPages (HasIn before hart) (MarksSince after (cache_in before hart)) (LacksIn before) (next_pages hart (with_memory old (memory_of held before))) result
+    pub pages : UsesPages (HasIn before hart) (UsedSince hart after (cache_in before hart)) (LacksIn before) (next_pages hart (with_memory old (memory_of held before))) result
     pub bound : Bounds (MarkedIn before) (MarkedIn after) (next_pages hart (with_memory old (memory_of held before))) (next_stores hart (with_memory old (memory_of held before)))
     pub leaves : LeavesNext hart (with_memory old (memory_of held before)) before after result
     pub wants : result ≡ Err serve.NoMemory → WantsMemory hart (with_memory old (memory_of held before))
@@ -49,9 +49,9 @@ module _ {S : Type 0} (held : S → List ℕ) (honest : Type 0) (hart : ℕ) whe
     pub ran_is : flat_run (replicate ran hart) (with_memory old (memory_of held before)) ≡ Some (with_memory new (memory_of held after))
     pub within : ran ≤ 1
     pub stops : StopsRecorded (LacksIn before) hart 1 fits (with_memory old (memory_of held before)) why ran (with_memory new (memory_of held after))
-    pub pages : EachStep (λ at. Used (HasIn before hart) (MarksSince after (cache_in before hart)) (next_pages hart at)) hart (answered why ran) (with_memory old (memory_of held before))
+    pub pages : EachStep (λ at. Used (HasIn before hart) (UsedSince hart after (cache_in before hart)) (next_pages hart at)) hart (answered why ran) (with_memory old (memory_of held before))
     pub bound : BoundsEach (MarkedIn before) (MarkedIn after) hart (begun why ran) (with_memory old (memory_of held before))
-    pub takes : EachStep (λ at. All (TakesIn after) (next_stores hart at)) hart (answered why ran) (with_memory old (memory_of held before))
+    pub takes : EachStep (λ at. All (TakesSince after (cache_in before hart)) (next_stores hart at)) hart (answered why ran) (with_memory old (memory_of held before))
     pub missed : AtAbsent why (MissesNext hart (with_memory old (memory_of held before)) before after)
     pub kept : KeepsAccess hart before after
 

@@ -7,8 +7,8 @@ use Rattle.rv_exec.specs.Registers.{Registers}
 use Rattle.env_calls.specs.declared.served.ServeStop.{ServeStop}
 use Rattle.env_calls.specs.Leaving.{LeavesStep}
 use Rattle.flat_machine.specs.Process.{Process, hart_registers}
-use Rattle.paged_memory.specs.access.HartMemory.{MarksSince}
-use Rattle.paged_memory.specs.access.Missing.{MissesIn, TakesIn}
+use Rattle.paged_memory.specs.access.HartMemory.{MarksSince, UsedSince}
+use Rattle.paged_memory.specs.access.Missing.{MissesIn, TakesSince}
 use Rattle.paged_memory.specs.Paged.{PagedValue}
 use Rattle.paged_memory.specs.access.Using.{cache_in}
 use Rattle.space_core.specs.declared.progress.Progress.{Progress}
@@ -21,7 +21,7 @@ module _ {S : Type 0} (hart : ℕ) where
   pub record LeavesNext (process : Process) (before after : PagedValue S) (result : Result Progress ServeStop) : Type 0 where
     pub registers : Registers
     pub are : hart_registers hart process ≡ Some registers
-    pub leaves : LeavesStep (TakesIn after) (MarksSince after (cache_in before hart)) (MissesIn before hart) (page_number registers.pc) (next_stores hart process) result
+    pub leaves : LeavesStep (TakesSince after (cache_in before hart)) (UsedSince hart after (cache_in before hart)) (MissesIn before hart) (page_number registers.pc) (next_stores hart process) result
 
   -- why the step's access to a page was refused: it was the fetch, and the hart's cache did not show the page; or the use of the code's
   -- page is marked, and the cache did not show the page of the data behind the fetch, which fills no translation but of the code's page

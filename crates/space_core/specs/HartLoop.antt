@@ -10,8 +10,8 @@ use Rattle.rv_exec.specs.Uses.{pages_stored}
 use Rattle.env_calls.specs.Finishing.{CameTo}
 use Rattle.flat_machine.specs.Process.{IsWhole}
 use Rattle.paged_memory.specs.Coheres.{Coheres}
-use Rattle.paged_memory.specs.access.HartMemory.{KeepsAccess, MarksSince}
-use Rattle.paged_memory.specs.access.Missing.{MissesIn, TakesIn}
+use Rattle.paged_memory.specs.access.HartMemory.{KeepsAccess, UsedSince}
+use Rattle.paged_memory.specs.access.Missing.{MissesIn, TakesSince}
 use Rattle.paged_memory.specs.Paged.{PagedValue, memory_of}
 use Rattle.paged_memory.specs.access.Using.{cache_in, HasIn, LacksIn, MarkedIn}
 use Rattle.space_core.specs.RunningValue.{RunningValue, with_memory}
@@ -20,8 +20,8 @@ module _ {S : Type 0} (held : S → List ℕ) (honest : Type 0) (hart : ℕ) whe
   -- a hart's instruction came to this outcome: a page's use may be without a mark only where the hart had a translation of it
   -- that was to be dropped when that very instruction began
   pub record RunsTo (outcome : Outcome) (regs : Registers) (old : PagedValue S) (regs' : Registers) (new : PagedValue S) : Type 0 where
-    pub came : CameTo (HasIn old hart) (MarksSince new (cache_in old hart)) (LacksIn old) (MarkedIn old) (MarkedIn new) hart outcome regs (memory_of held old) regs' (memory_of held new)
-    pub leaves : LeavesPages (TakesIn new) (MarksSince new (cache_in old hart)) (MissesIn old hart) (MissesIn new hart) (page_number regs.pc) (pages_stored regs (memory_of held old)) outcome
+    pub came : CameTo (HasIn old hart) (UsedSince hart new (cache_in old hart)) (LacksIn old) (MarkedIn old) (MarkedIn new) hart outcome regs (memory_of held old) regs' (memory_of held new)
+    pub leaves : LeavesPages (TakesSince new (cache_in old hart)) (UsedSince hart new (cache_in old hart)) (MissesIn old hart) (MissesIn new hart) (page_number regs.pc) (pages_stored regs (memory_of held old)) outcome
     pub kept : KeepsAccess hart old new
     pub coheres : Coheres held honest new
 

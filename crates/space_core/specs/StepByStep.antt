@@ -3,8 +3,8 @@ use Rattle.std.specs.Prelude.{◌≡◌, ◌≢◌, ℕ, zero, suc, ◌+◌, ◌
 use Rattle.rv_exec.specs.Outcomes.{Used}
 use Rattle.flat_machine.specs.Process.{flat_run}
 use Rattle.flat_machine.specs.Schedule.{written_out, room}
-use Rattle.paged_memory.specs.access.HartMemory.{MarksSince}
-use Rattle.paged_memory.specs.access.Missing.{TakesIn}
+use Rattle.paged_memory.specs.access.HartMemory.{MarksSince, WasShown}
+use Rattle.paged_memory.specs.access.Missing.{TakesSince}
 use Rattle.space_core.specs.declared.progress.SliceStop.{SliceStop}
 use Rattle.space_core.specs.declared.progress.SliceStop.TheVariants.{Budget}
 use Rattle.paged_memory.specs.Coheres.{Coheres}
@@ -25,9 +25,11 @@ module _ {S : Type 0} (held : S → List ℕ) (honest : Type 0) (hart : ℕ) whe
     pub stops : StopsRecorded (LacksIn old.memory) hart 1 (room old.schedule hart) (shown_process held old) why ran (shown_process held new)
     pub pages : EachStep (λ at. Used (HasIn old.memory hart) (MarksSince new.memory (cache_in old.memory hart)) (next_pages hart at)) hart (answered why ran) (shown_process held old)
     pub bound : BoundsEach (MarkedIn old.memory) (MarkedIn new.memory) hart (begun why ran) (shown_process held old)
-    -- what an instruction that was answered stored to takes stores; and a page that was absent was not in the hart's cache when its access
+    -- where the hart goes on, its cache showed each page that an answered instruction used
+    pub shown : why ≡ Budget → EachStep (λ at. All (WasShown (cache_in old.memory hart) (cache_in new.memory hart)) (next_pages hart at)) hart (answered why ran) (shown_process held old)
+    -- what an instruction that was answered stored to takes stores, and has D where no translation served that the hart had; and a page that was absent was not in the hart's cache when its access
     -- came, whatever the cache held when the instruction began
-    pub takes : EachStep (λ at. All (TakesIn new.memory) (next_stores hart at)) hart (answered why ran) (shown_process held old)
+    pub takes : EachStep (λ at. All (TakesSince new.memory (cache_in old.memory hart)) (next_stores hart at)) hart (answered why ran) (shown_process held old)
     pub missed : AtAbsent why (MissesNext hart (shown_process held old) old.memory new.memory)
     pub kept : KeepsSpace hart why old new
     pub stands : honest → StandsFor held new

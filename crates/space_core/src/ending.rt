@@ -4,8 +4,8 @@ ghost use Rattle.std.specs.Prelude.{◌≡◌, ℕ, ◌≤◌, ◌<◌, true, le
 ghost use Rattle.env_calls.specs.Finishing.{IsRest};
 ghost use Rattle.env_calls.specs.Leaving.{LeavesRest};
 ghost use Rattle.flat_machine.specs.Process.{may_step};
-ghost use Rattle.paged_memory.specs.access.HartMemory.{KeepsAccess, MarksSince};
-ghost use Rattle.paged_memory.specs.access.Missing.{MissesIn, TakesIn};
+ghost use Rattle.paged_memory.specs.access.HartMemory.{KeepsAccess, UsedSince};
+ghost use Rattle.paged_memory.specs.access.Missing.{MissesIn, TakesSince};
 ghost use Rattle.paged_memory.specs.Paged.{memory_of};
 ghost use Rattle.paged_memory.specs.access.Using.{cache_in, HasIn, LacksIn, MarkedIn};
 ghost use Rattle.paged_memory.specs.Whole.{harts_in};
@@ -32,13 +32,13 @@ fn finish_on<L: Ledger, S: SwapSlot, O: Opening>(
 ) -> Result<Stepped, ServeStop>
     requires started { hart < harts_in memory.old }
     requires opening { cache_in memory.old hart ≡ O.opening }
-    ensures rest { IsRest (HasIn memory.old hart) (MarksSince memory.new
+    ensures rest { IsRest (HasIn memory.old hart) (UsedSince hart memory.new
         (cache_in memory.old hart)) (LacksIn memory.old) (MarkedIn memory.old)
         (MarkedIn memory.new)
         hart outcome regs.old env.old (memory_of S.content memory.old) result regs.new env.new
         (memory_of S.content memory.new) }
-    ensures leaves { LeavesRest (TakesIn memory.new) (MissesIn memory.old hart) outcome regs.old
-        (memory_of S.content memory.old) result }
+    ensures leaves { LeavesRest (TakesSince memory.new (cache_in memory.old hart))
+        (MissesIn memory.old hart) outcome regs.old (memory_of S.content memory.old) result }
     ensures kept { KeepsAccess hart memory.old memory.new }
 {
     let mut bus: HartMemory<L, S, O> = HartMemory::new(memory, hart as usize);

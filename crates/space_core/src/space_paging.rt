@@ -3,14 +3,14 @@
 ghost use Rattle.std.specs.Prelude.{◌≡◌, ◌+◌, ◌<◌, ◌≤◌, ◌^◌, length, true, Some, IsSome, IfSome};
 ghost use Rattle.std.specs.Prelude.{IfNone, OnOk, OnErr, IfErr};
 ghost use Rattle.std.specs.Bool.{OnTrue, OnFalse};
-ghost use Rattle.page_memory.specs.Words.{page_offset};
+ghost use Rattle.page_memory.specs.Words.{page_number, page_offset};
 ghost use Rattle.flat_machine.specs.Process.{Process, flat_run, opening};
 ghost use Rattle.flat_machine.specs.Schedule.{written_out};
 ghost use Rattle.paged_memory.specs.cleaning.Copies.{LeavesCopies};
 ghost use Rattle.paged_memory.specs.moves.Moving.{ComesIn, DoesNotShow, GivesIn, HasNothingBelow};
 ghost use Rattle.paged_memory.specs.moves.Moving.{LeavesLookedAt, LiesBehindIn, RefusesIn, SameCaches};
-ghost use Rattle.paged_memory.specs.moves.Moving.{SameEntries, SameTablesIn, SavesNone, SavesSome};
-ghost use Rattle.paged_memory.specs.moves.Moving.{ShowsIn, with_pages};
+ghost use Rattle.paged_memory.specs.moves.Moving.{SameEntries, SameFailures, SameTablesIn};
+ghost use Rattle.paged_memory.specs.moves.Moving.{SavesNone, SavesSome, ShowsIn, with_pages};
 ghost use Rattle.paged_memory.specs.Paged.{memory_of};
 ghost use Rattle.paged_memory.specs.Peeking.{bytes_of};
 ghost use Rattle.space_core.specs.Caches.{if_ended};
@@ -51,6 +51,8 @@ impl<L: Ledger, S: SwapSlot> Space<L, S> {
         requires { vpn < 2 ^ 20 }
         ensures ok { OnOk result (ComesIn S.content S.honest frame vpn self.old.memory
             self.new.memory) }
+        ensures passed { OnOk result (SameFailures S.failures vpn self.old.memory
+            self.new.memory) }
         ensures refused { IfErr result (λ back.
             RefusesIn S.content S.honest S.failures frame vpn back.0 back.1 self.old.memory
             self.new.memory) }
@@ -79,6 +81,8 @@ impl<L: Ledger, S: SwapSlot> Space<L, S> {
         ensures flat { S.honest → OnOk result ((flat : Process) →
             flat_run (written_out self.old.schedule) (opening self.old.image self.old.input) ≡
             Some flat → bytes_of flat.memory address (length bytes.old) ≡ Some bytes.new) }
+        ensures passed { OnOk result (SameFailures S.failures
+            (page_number address) self.old.memory self.new.memory) }
         ensures unread { OnErr result (bytes.new ≡ bytes.old) }
         ensures refused { IfErr result (DoesNotShow S.content S.honest S.failures address
             self.old.memory self.new.memory) }

@@ -102,10 +102,9 @@ impl Tables {
         requires table { has_table self.old vpn ≡ true }
         ensures { self.new ≡ mapped self.old vpn pte.0 }
     {
-        let Some(table) = self.table_for(vpn) else {
-            unreachable!()
-        };
-        self.write(table, (vpn % 1024) as usize, pte.0);
+        if let Some(table) = self.table_for(vpn) {
+            self.write(table, (vpn % 1024) as usize, pte.0);
+        }
     }
 
     /// Takes a page's word away and answers it, or `None` where the page has no word with V. It takes no memory.

@@ -1,1 +1,2 @@
+pub mod SketchLaws
 pub mod WTinyLfuPlayLaws

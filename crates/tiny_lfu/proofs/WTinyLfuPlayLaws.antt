@@ -6,9 +6,9 @@ use Rattle.clock_policy.specs.declared.key.Key.{Key}
 use Rattle.page_policies.specs.Strings.{is_page, holds, without}
 use Rattle.page_policies.specs.Ordered.{to_front, last_of, but_last}
 use Rattle.page_policies.specs.Demand.{number, IsPlayed}
-use Rattle.page_policies.specs.PlayedLaws.{here}
-use Rattle.page_policies.specs.NumberLaws.{less, most}
-use Rattle.page_policies.specs.PartLaws.{number_append, holds_append, there_first, there_second, there_counted, counts_itself, length_parts, front_there, number_front, number_moved, number_out, length_front, length_moved, length_out, length_but_last, number_but_last, last_split, none_last, some_last, hit_leaves, miss_leaves, Serves, served_plays}
+use Rattle.page_policies.proofs.PlayedLaws.{here}
+use Rattle.page_policies.proofs.NumberLaws.{less, most}
+use Rattle.page_policies.proofs.PartLaws.{number_append, holds_append, there_first, there_second, there_counted, counts_itself, length_parts, front_there, number_front, number_moved, number_out, length_front, length_moved, length_out, length_but_last, number_but_last, last_split, none_last, some_last, hit_leaves, miss_leaves, Serves, served_plays}
 use Rattle.tiny_lfu.specs.Sketch.{estimate}
 use Rattle.tiny_lfu.specs.declared.shares.TinyLfuShares.{TinyLfuShares}
 use Rattle.tiny_lfu.specs.declared.shares.TinyLfuRooms.{TinyLfuRooms}

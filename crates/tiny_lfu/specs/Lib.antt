@@ -1,4 +1,2 @@
 pub mod Sketch
-pub mod SketchLaws
 pub mod WTinyLfu
-pub mod WTinyLfuLaws

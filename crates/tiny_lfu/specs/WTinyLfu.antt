@@ -11,6 +11,8 @@ use Rattle.tiny_lfu.specs.declared.shares.SketchWidth.{SketchWidth}
 use Rattle.tiny_lfu.specs.declared.shares.SketchWidth.TheVariants.{One, Four}
 use Rattle.tiny_lfu.specs.declared.shares.TinyLfuShares.{TinyLfuShares}
 use Rattle.tiny_lfu.specs.declared.shares.TinyLfuRooms.{TinyLfuRooms}
+use Rattle.tiny_lfu.specs.declared.sketch_state.Sketch.{Sketch}
+use Rattle.tiny_lfu.specs.declared.w_tiny_lfu_state.WTinyLfu.{WTinyLfu}
 
 pub record WTinyLfuState : Type 0 where
   pub window : List Key
@@ -119,3 +121,14 @@ opening r = record { window = []; probation = []; protected = []; sketch = recor
 
 unfoldable pub w_tiny_lfu_misses : TinyLfuShares → ℕ → List Key → ℕ
 w_tiny_lfu_misses shares m string = misses in_w_tiny_lfu (w_tiny_lfu (rooms_of shares m)) (opening (rooms_of shares m)) string
+
+-- the counter and its sketch as this definition sees them
+abbrev pub sketch_of : Sketch → SketchState
+sketch_of s = record { counts = s.counts.items; added = s.added }
+
+abbrev pub lists_of : WTinyLfu → WTinyLfuState
+lists_of s = record { window = s.window; probation = s.probation; protected = s.protected; sketch = sketch_of s.sketch }
+
+-- where it is in a frame it is used
+abbrev pub touched : TinyLfuRooms → Key → WTinyLfuState → WTinyLfuState
+touched r p s = cond (in_w_tiny_lfu p s) (used r p s) s

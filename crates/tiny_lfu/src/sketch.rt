@@ -4,7 +4,7 @@ ghost use Rattle.std.specs.Prelude.{◌≡◌, ◌≤◌, ◌<◌, ◌+◌, ◌*
 ghost use Rattle.std.specs.Prelude.{replicate, IfOk};
 ghost use Rattle.tiny_lfu.specs.Sketch.{least_at, estimate, raised, all_raised, noted, counted};
 ghost use Rattle.tiny_lfu.specs.Sketch.{most_width};
-ghost use Rattle.tiny_lfu.specs.SketchLaws.{sketch_of};
+ghost use Rattle.tiny_lfu.specs.WTinyLfu.{sketch_of};
 
 use crate::places::{Places, places_of};
 use crate::sketch_state::Sketch;
@@ -36,7 +36,7 @@ fn higher(count: u8, least: u8) -> u8
 }
 
 /// A count that is the least one grows. It is written in any case, so that no branch has to be foretold.
-#[tactic(auto, using(crate::specs::SketchLaws::raised_as))]
+#[tactic(auto, using(crate::proofs::SketchLaws::raised_as))]
 fn raise(counts: &mut [u8], at: usize, least: u8)
     requires inside { at < length counts.old }
     requires few { least < 15 }

@@ -8,8 +8,7 @@ ghost use Rattle.tiny_lfu.specs.Sketch.{estimate};
 ghost use Rattle.tiny_lfu.specs.WTinyLfu.{rooms_of, usual_shares, settled};
 ghost use Rattle.tiny_lfu.specs.WTinyLfu.{promoted, victim, victim_out, let_in, contested};
 ghost use Rattle.tiny_lfu.specs.WTinyLfu.{admitted, window_cut, brought, in_w_tiny_lfu, noted};
-ghost use Rattle.tiny_lfu.specs.WTinyLfu.{w_tiny_lfu, w_tiny_lfu_misses};
-ghost use Rattle.tiny_lfu.specs.WTinyLfuLaws.{lists_of, touched};
+ghost use Rattle.tiny_lfu.specs.WTinyLfu.{w_tiny_lfu, w_tiny_lfu_misses, lists_of, touched};
 
 use crate::shares::TinyLfuShares;
 use crate::sketch_state::Sketch;

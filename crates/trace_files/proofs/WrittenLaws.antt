@@ -7,7 +7,7 @@ use Rattle.std.specs.Io.KnownBytes.{Appends}
 use Rattle.clock_policy.specs.declared.key.Key.{Key}
 use Rattle.page_policies.specs.Optimal.{next_use}
 use Rattle.page_policies.specs.NextUses.{next_uses}
-use Rattle.whole_strings.specs.PlaceStepLaws.{Uncovered, uncover}
+use Rattle.whole_strings.proofs.PlaceStepLaws.{Uncovered, uncover}
 use Rattle.byteorder.specs.Endian.{little_bytes}
 use Rattle.trace_lines.specs.PageIds.{id_of}
 use Rattle.trace_files.specs.Written.{short_time, next_time, record_bytes, records}

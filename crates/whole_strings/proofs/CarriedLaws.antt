@@ -2,10 +2,10 @@
 use Rattle.std.specs.Prelude.{◌≡◌, ℕ, zero, suc, ◌+◌, ◌-◌, ◌<◌, ◌≤◌, ◌==◌, Bool, true, false, cond, nat_lt, List, [], ◌∷◌, take, length, refl}
 use Rattle.std.proofs.Common.{arith, sym, ap, ◌∙◌}
 use Rattle.std.proofs.lemmas.Bool.Decides.{nat_tests}
-use Rattle.page_policies.specs.DemandLaws.{one}
-use Rattle.page_policies.specs.NumberLaws.{less, most, yes_less, no_less, next_less}
+use Rattle.page_policies.specs.Demand.{one}
+use Rattle.page_policies.proofs.NumberLaws.{less, most, yes_less, no_less, next_less}
 use Rattle.whole_strings.specs.NextPlaces.{under, Roomed}
-use Rattle.whole_strings.specs.NextPlaceLaws.{under_few}
+use Rattle.whole_strings.proofs.NextPlaceLaws.{under_few}
 use Rattle.whole_strings.specs.OptimumStack.{nearer, farther, place_depth, carried_down, restacked}
 
 pub same_number : (a b : ℕ) → (a == b) ≡ true → a ≡ b

@@ -5,10 +5,10 @@ use Rattle.std.proofs.lemmas.List.{take_all}
 use Rattle.clock_policy.specs.declared.key.Key.{Key}
 use Rattle.page_policies.specs.Optimal.{optimal_misses}
 use Rattle.page_policies.specs.NextUses.{next_uses}
-use Rattle.page_policies.specs.NumberLaws.{less, most, yes_less, no_less}
+use Rattle.page_policies.proofs.NumberLaws.{less, most, yes_less, no_less}
 use Rattle.whole_strings.specs.NextPlaces.{place}
-use Rattle.whole_strings.specs.LruDepths.{hits_within}
-use Rattle.whole_strings.specs.LruDepthLaws.{noted, referred, Few, few_at}
+use Rattle.whole_strings.specs.LruDepths.{hits_within, noted, referred}
+use Rattle.whole_strings.proofs.LruDepthLaws.{Few, few_at}
 use Rattle.whole_strings.specs.OptimumStack.{nearer, farther, place_depth, carried_down, restacked, CountsOptimum}
 use Rattle.whole_strings.proofs.OptimumStackLaws.{OptimumCounting, optimum_counting_open, optimum_counting_on, optimum_counting_end}
 

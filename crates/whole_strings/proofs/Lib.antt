@@ -1,3 +1,10 @@
+pub mod NextPlaceLaws
+pub mod PlaceStepLaws
+pub mod LruDepthLaws
+pub mod PlaceSumLaws
+pub mod LastPlaceLaws
+pub mod OptimumCurveLaws
+pub mod WorkingSetLaws
 pub mod NextUseLaws
 pub mod CarriedLaws
 pub mod CarryingLaws

@@ -5,14 +5,14 @@ use Rattle.clock_policy.specs.declared.key.Key.{Key}
 use Rattle.page_policies.specs.Strings.{is_page, holds}
 use Rattle.page_policies.specs.Optimal.{next_use, room_for}
 use Rattle.page_policies.specs.Demand.{number}
-use Rattle.page_policies.specs.CountLaws.{near, none_number, some_number}
-use Rattle.page_policies.specs.NumberLaws.{less, most}
+use Rattle.page_policies.proofs.CountLaws.{near, none_number, some_number}
+use Rattle.page_policies.proofs.NumberLaws.{less, most}
 use Rattle.whole_strings.specs.NextPlaces.{under, place}
-use Rattle.whole_strings.specs.NextPlaceLaws.{under_more}
-use Rattle.whole_strings.specs.PlaceStepLaws.{Stands, next_once}
+use Rattle.whole_strings.proofs.NextPlaceLaws.{under_more}
+use Rattle.whole_strings.proofs.PlaceStepLaws.{Stands, next_once}
 use Rattle.whole_strings.specs.OptimumStack.{place_depth, restacked}
 use Rattle.whole_strings.specs.OptimumInclusion.{optimum_leaves, OptimumInclusion}
-use Rattle.whole_strings.specs.LruDepthLaws.{flip_page}
+use Rattle.whole_strings.proofs.LruDepthLaws.{flip_page}
 use Rattle.whole_strings.proofs.OptimumStepLaws.{hit_there, hit_stands, miss_gone, miss_stands}
 
 -- with each number of frames the first places of the stack are those of the pages

@@ -4,12 +4,12 @@ use Rattle.std.proofs.Common.{arith, sym, ap, subst, ◌∙◌}
 use Rattle.clock_policy.specs.declared.key.Key.{Key}
 use Rattle.page_policies.specs.Optimal.{optimal_misses}
 use Rattle.page_policies.specs.NextUses.{next_uses}
-use Rattle.page_policies.specs.DemandLaws.{one}
-use Rattle.page_policies.specs.NumberLaws.{less, most, yes_less, no_less}
+use Rattle.page_policies.specs.Demand.{one}
+use Rattle.page_policies.proofs.NumberLaws.{less, most, yes_less, no_less}
 use Rattle.whole_strings.specs.NextPlaces.{place}
-use Rattle.whole_strings.specs.PlaceStepLaws.{Served, served_first, served_on, served_last}
-use Rattle.whole_strings.specs.LruDepths.{hits_within}
-use Rattle.whole_strings.specs.LruDepthLaws.{noted, noted_within, new_within, referred, Few, few_noted, few_new, length_noted, length_new}
+use Rattle.whole_strings.proofs.PlaceStepLaws.{Served, served_first, served_on, served_last}
+use Rattle.whole_strings.specs.LruDepths.{hits_within, noted, referred}
+use Rattle.whole_strings.proofs.LruDepthLaws.{noted_within, new_within, Few, few_noted, few_new, length_noted, length_new}
 use Rattle.whole_strings.specs.OptimumStack.{place_depth, restacked}
 use Rattle.whole_strings.proofs.CarriedLaws.{length_restacked}
 use Rattle.whole_strings.proofs.OptimumStepLaws.{step_hit, step_miss}

@@ -4,10 +4,10 @@ use Rattle.std.proofs.Common.{arith, sym, ap, ◌∙◌}
 use Rattle.clock_policy.specs.declared.key.Key.{Key}
 use Rattle.page_policies.specs.Strings.{holds}
 use Rattle.page_policies.specs.Optimal.{next_use, room_for}
-use Rattle.page_policies.specs.DemandLaws.{one}
-use Rattle.page_policies.specs.NumberLaws.{yes_less}
+use Rattle.page_policies.specs.Demand.{one}
+use Rattle.page_policies.proofs.NumberLaws.{yes_less}
 use Rattle.whole_strings.specs.NextPlaces.{under, place, Roomed}
-use Rattle.whole_strings.specs.PlaceStepLaws.{Stands, Left, Steps, hit_left, miss_left, place_near, place_past, past_more, there_now, none_yet}
+use Rattle.whole_strings.proofs.PlaceStepLaws.{Stands, Left, Steps, hit_left, miss_left, place_near, place_past, past_more, there_now, none_yet}
 use Rattle.whole_strings.specs.OptimumStack.{place_depth, carried_down, restacked}
 use Rattle.whole_strings.proofs.CarriedLaws.{same_number, roomed_down, found_down, length_found_down, not_there}
 

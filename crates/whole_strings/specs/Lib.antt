@@ -1,17 +1,10 @@
 pub mod NextPlaces
-pub mod NextPlaceLaws
-pub mod PlaceStepLaws
 pub mod PageCounts
 pub mod LruDepths
-pub mod LruDepthLaws
 pub mod LastPlaces
-pub mod PlaceSumLaws
-pub mod LastPlaceLaws
 pub mod OptimumCurve
 pub mod OptimumStack
 pub mod OptimumInclusion
-pub mod OptimumCurveLaws
 pub mod OptimumCounts
 pub mod Sampling
 pub mod WorkingSets
-pub mod WorkingSetLaws

@@ -1,9 +1,12 @@
 -- Working sets: at each moment the pages of the last so many references. Peter J. Denning, "The Working Set Model for Program Behavior",
 -- Communications of the ACM 1968: W(t, T) is the set of pages that are referenced in the last T references at time t. Here T is the window,
 -- and a past has the references so far, the last one first.
-use Rattle.std.specs.Prelude.{◌≡◌, ℕ, ◌+◌, ◌<◌, ◌^◌, ◌-◌, cond, min, List, [], ◌∷◌, take, length, slice_get, Some}
+use Rattle.std.specs.Prelude.{◌≡◌, ℕ, ◌+◌, ◌<◌, ◌^◌, ◌-◌, cond, min, List, [], ◌∷◌, take, length, slice_get, Some, ◌≤◌, ◌&&◌, Bool, nat_le, nat_lt, ⊤}
 use Rattle.clock_policy.specs.declared.key.Key.{Key}
 use Rattle.page_policies.specs.Strings.{holds}
+use Rattle.page_policies.specs.Optimal.{next_use}
+use Rattle.page_policies.specs.Demand.{one}
+use Rattle.whole_strings.specs.LruDepths.{hits_within}
 use Rattle.whole_strings.specs.declared.working_sets.WindowCounts.{WindowCounts}
 
 -- how many pages a list has that are not among others, each counted where it stands first
@@ -44,3 +47,31 @@ counts_of window string = record { sizes = at_most_word (set_sizes window string
 pub record IsWindowCurve (curve : List WindowCounts) (string : List Key) : Type 0 where
   pub whole : length curve ≡ length string
   pub each : (n : ℕ) → n < length string → slice_get curve n ≡ Some (counts_of (n + 1) string)
+
+-- how many references have at least so many others before their page is used again, or before the end
+abbrev pub reaching : ℕ → List Key → ℕ
+reaching window [] = 0
+reaching window (p ∷ ps) = one (nat_le window (next_use p ps)) + reaching window ps
+
+-- a page is used again, with fewer than so many references before
+abbrev pub comes_back : ℕ → Key → List Key → Bool
+comes_back window q string = nat_lt (next_use q string) window && nat_lt (next_use q string) (length string)
+
+-- how many references' pages are used again, with fewer than so many others before
+abbrev pub returning : ℕ → List Key → ℕ
+returning window [] = 0
+returning window (p ∷ ps) = one (comes_back window p ps) + returning window ps
+
+-- what is counted of next uses: how many are so many, of all, or of those pages that are used again
+pub record IsAhead (counts : List ℕ) (string : List Key) : Type 0 where
+  pub size : length counts ≡ length string
+  pub within : (m : ℕ) → reaching m string + hits_within m counts ≡ length string
+
+pub record IsReturning (counts : List ℕ) (string : List Key) : Type 0 where
+  pub size : length counts ≡ length string
+  pub within : (m : ℕ) → returning m string ≡ hits_within m counts
+
+-- each next use of a string is within what is left of it
+abbrev pub Inside : List ℕ → Type 0
+Inside [] = ⊤
+Inside (u ∷ us) = (u ≤ length us) × Inside us

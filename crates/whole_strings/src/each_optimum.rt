@@ -2,11 +2,9 @@
 
 ghost use Rattle.std.specs.Prelude.{◌≡◌, ◌+◌, ◌-◌, ◌<◌, ◌≤◌, ◌^◌, ◌++◌, ◌∷◌, [], ℕ, cond, nat_lt, take, length, slice_index_or, slice_set, IfOk, OnOk, MatchOption};
 ghost use Rattle.page_policies.specs.NextUses.{next_uses};
-ghost use Rattle.whole_strings.specs.LruDepths.{hits_within};
-ghost use Rattle.whole_strings.specs.LruDepthLaws.{referred};
-ghost use Rattle.whole_strings.specs.OptimumCurve.{IsOptimumCurve};
+ghost use Rattle.whole_strings.specs.LruDepths.{hits_within, referred};
+ghost use Rattle.whole_strings.specs.OptimumCurve.{IsOptimumCurve, FallsTo};
 ghost use Rattle.whole_strings.specs.OptimumStack.{nearer, farther, place_depth, restacked, CountsOptimum};
-ghost use Rattle.whole_strings.specs.OptimumCurveLaws.{FallsTo};
 
 use crate::lru_depths::note_depth;
 use crate::optimum::next_place;
@@ -149,7 +147,7 @@ fn falls(
 }
 
 /// What the optimum misses of a string with 1, 2, 3 and more frames, up to so many, from how far ahead each page is used again.
-#[tactic(auto, using(crate::specs::OptimumCurveLaws::falls_are, crate::specs::OptimumCurveLaws::no_curve))]
+#[tactic(auto, using(crate::proofs::OptimumCurveLaws::falls_are, crate::proofs::OptimumCurveLaws::no_curve))]
 pub(crate) fn curve_of(
     alloc: Global,
     string: &[Key],

@@ -1,8 +1,7 @@
 //! Places of a string that count while they are the last use of their page.
 
 ghost use Rattle.std.specs.Prelude.{◌≡◌, ◌+◌, ◌-◌, ◌%◌, ◌<◌, ◌^◌, min, take, drop, length, replicate, slice_index_or, IfOk};
-ghost use Rattle.whole_strings.specs.LastPlaces.{total, sum_from, lowered};
-ghost use Rattle.whole_strings.specs.PlaceSumLaws.{AreSummed, Adds, Removes};
+ghost use Rattle.whole_strings.specs.LastPlaces.{total, sum_from, lowered, AreSummed, Adds, Removes};
 
 use crate::lru_depths::note_hit;
 use std::alloc::{AllocError, Global};

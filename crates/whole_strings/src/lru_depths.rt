@@ -4,11 +4,8 @@ ghost use Rattle.std.specs.Prelude.{◌≡◌, ◌<◌, ◌^◌, ℕ, None, leng
 ghost use Rattle.clock_policy.specs.declared.key.Key.{Key};
 ghost use Rattle.std.specs.HashMap.{get};
 ghost use Rattle.page_policies.specs.Strings.{is_page};
-ghost use Rattle.whole_strings.specs.LruDepths.{IsLruCurve};
-ghost use Rattle.whole_strings.specs.LruDepthLaws.{noted, referred, tails};
-ghost use Rattle.whole_strings.specs.LastPlaces.{sum_from};
-ghost use Rattle.whole_strings.specs.PlaceSumLaws.{AreSummed};
-ghost use Rattle.whole_strings.specs.LastPlaceLaws.{MayLeave, Left};
+ghost use Rattle.whole_strings.specs.LruDepths.{IsLruCurve, noted, referred, tails};
+ghost use Rattle.whole_strings.specs.LastPlaces.{sum_from, AreSummed, MayLeave, Left};
 
 use crate::last_places::LastPlaces;
 use crate::string_uses::note;

@@ -3,9 +3,8 @@
 ghost use Rattle.std.specs.Prelude.{◌≡◌, ◌<◌, ◌^◌, cond, nat_lt, length, slice_index_or, IfOk, List};
 ghost use Rattle.clock_policy.specs.declared.key.Key.{Key};
 ghost use Rattle.page_policies.specs.NextUses.{next_uses};
-ghost use Rattle.whole_strings.specs.LruDepthLaws.{noted};
-ghost use Rattle.whole_strings.specs.WorkingSets.{IsWindowCurve};
-ghost use Rattle.whole_strings.specs.WorkingSetLaws.{IsAhead, IsReturning, Inside};
+ghost use Rattle.whole_strings.specs.LruDepths.{noted};
+ghost use Rattle.whole_strings.specs.WorkingSets.{IsWindowCurve, IsAhead, IsReturning, Inside};
 
 use crate::lru_depths::note_hit;
 use crate::string_uses::next_uses;

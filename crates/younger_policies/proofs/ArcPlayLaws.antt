@@ -5,12 +5,12 @@ use Rattle.std.proofs.lemmas.Bool.Decides.{nat_tests}
 use Rattle.clock_policy.specs.declared.key.Key.{Key}
 use Rattle.page_policies.specs.Strings.{is_page, holds, without}
 use Rattle.page_policies.specs.Ordered.{to_front, last_of, but_last}
-use Rattle.page_policies.specs.QueueLaws.{absent}
+use Rattle.page_policies.proofs.QueueLaws.{absent}
 use Rattle.page_policies.specs.Demand.{number, IsPlayed}
-use Rattle.page_policies.specs.NumberLaws.{less, most}
-use Rattle.page_policies.specs.PartLaws.{number_append, holds_append, there_first, there_second, length_parts, front_there, number_front, number_moved, number_out, length_out, length_fewer, length_front, length_moved, length_but_last, number_but_last, hit_leaves, miss_leaves, Serves, served_plays}
+use Rattle.page_policies.proofs.NumberLaws.{less, most}
+use Rattle.page_policies.proofs.PartLaws.{number_append, holds_append, there_first, there_second, length_parts, front_there, number_front, number_moved, number_out, length_out, length_fewer, length_front, length_moved, length_but_last, number_but_last, hit_leaves, miss_leaves, Serves, served_plays}
 use Rattle.younger_policies.specs.Arc.{ArcState, step_of, grown, shrunk, with_last, first_out, second_out, takes_first, replaced, hit, from_first, from_second, fetched, without_b1, without_b2, without_t1, case_a, case_b, all_pages, new_page, missed, in_arc, arc, arc_misses}
-use Rattle.younger_policies.specs.ArcLaws.{some_held}
+use Rattle.younger_policies.proofs.ArcLaws.{some_held}
 
 -- the pages in frames
 abbrev pages : ArcState → List Key

@@ -24,9 +24,9 @@ use Rattle.clock_policy.proofs.QuestionLaws.{no_question, answered_err}
 use Rattle.page_policies.specs.Strings.{is_page, holds}
 use Rattle.younger_policies.specs.ClockProPlay.{Play, is_resident_kind, in_play, bit_of, asked, is_full_refusal, entered, placed, clock_pro, clock_pro_used, opening_play, clock_pro_misses, clock_pro_used_misses}
 use Rattle.page_policies.specs.Demand.{number, MayLeave, IsPlayedWithin}
-use Rattle.page_policies.specs.CountLaws.{none_number, some_number}
-use Rattle.page_policies.specs.PlayedLaws.{stays}
-use Rattle.page_policies.specs.PartLaws.{Serves, served_plays}
+use Rattle.page_policies.proofs.CountLaws.{none_number, some_number}
+use Rattle.page_policies.proofs.PlayedLaws.{stays}
+use Rattle.page_policies.proofs.PartLaws.{Serves, served_plays}
 
 -- the pages that are in frames, in the order of the list
 abbrev pages_in : List Entry → List Key

@@ -1,3 +1,8 @@
+pub mod ArcLaws
+pub mod SieveLaws
+pub mod S3FifoLaws
+pub mod PlayLaws
+pub mod LirsLaws
 pub mod TwoQueuePlayLaws
 pub mod ArcPlayLaws
 pub mod SievePlayLaws

@@ -7,8 +7,8 @@ use Rattle.clock_policy.specs.declared.key.Key.{Key}
 use Rattle.page_policies.specs.Strings.{holds}
 use Rattle.page_policies.specs.Ordered.{to_front, last_of, but_last}
 use Rattle.page_policies.specs.Demand.{number, MayLeave, IsPlayed}
-use Rattle.page_policies.specs.NumberLaws.{less, most}
-use Rattle.page_policies.specs.PartLaws.{number_append, holds_append, there_first, there_second, length_parts, front_there, number_front, length_front, length_moved, number_moved, length_but_last, number_but_last, last_split, last_there, none_last, some_last, hit_leaves, miss_leaves, Serves, served_plays}
+use Rattle.page_policies.proofs.NumberLaws.{less, most}
+use Rattle.page_policies.proofs.PartLaws.{number_append, holds_append, there_first, there_second, length_parts, front_there, number_front, length_front, length_moved, number_moved, length_but_last, number_but_last, last_split, last_there, none_last, some_last, hit_leaves, miss_leaves, Serves, served_plays}
 use Rattle.younger_policies.specs.declared.s3_fifo_shares.S3FifoShares.{S3FifoShares}
 use Rattle.younger_policies.specs.declared.s3_fifo_shares.S3FifoRooms.{S3FifoRooms}
 use Rattle.younger_policies.specs.S3Fifo.{S3FifoState, rooms_of, moved_freq, pages_in, main_again, tail_freq, main_out, evicted_main, main_turned, main_cut, small_up, small_out, evicted_small, evicted, room_made, came_back, came, inserted, used, in_s3_fifo, s3_fifo, s3_fifo_misses}

@@ -6,8 +6,8 @@ use Rattle.clock_policy.specs.declared.key.Key.{Key}
 use Rattle.page_policies.specs.Strings.{is_page, holds}
 use Rattle.page_policies.specs.Ordered.{to_front, last_of, but_last}
 use Rattle.page_policies.specs.Demand.{number, IsPlayed}
-use Rattle.page_policies.specs.NumberLaws.{less, most}
-use Rattle.page_policies.specs.PartLaws.{number_append, holds_append, there_first, length_parts, front_there, number_front, length_front, length_but_last, number_but_last, last_split, hit_leaves, miss_leaves, Serves, served_plays}
+use Rattle.page_policies.proofs.NumberLaws.{less, most}
+use Rattle.page_policies.proofs.PartLaws.{number_append, holds_append, there_first, length_parts, front_there, number_front, length_front, length_but_last, number_but_last, last_split, hit_leaves, miss_leaves, Serves, served_plays}
 use Rattle.younger_policies.specs.Sieve.{SieveState, wrapped, hand_visited, passed, discarded, swept, queue_length, made_room, inserted, visit, in_sieve, sieve, sieve_misses}
 
 -- the pages in frames

@@ -6,8 +6,8 @@ use Rattle.clock_policy.specs.declared.key.Key.{Key}
 use Rattle.page_policies.specs.Strings.{holds}
 use Rattle.page_policies.specs.Ordered.{to_front, but_last}
 use Rattle.page_policies.specs.Demand.{number, MayLeave, IsPlayed}
-use Rattle.page_policies.specs.NumberLaws.{less, most}
-use Rattle.page_policies.specs.PartLaws.{number_append, holds_append, there_first, there_second, length_parts, front_there, number_front, number_moved, length_front, length_moved, length_but_last, number_but_last, hit_leaves, miss_leaves, Serves, served_plays}
+use Rattle.page_policies.proofs.NumberLaws.{less, most}
+use Rattle.page_policies.proofs.PartLaws.{number_append, holds_append, there_first, there_second, length_parts, front_there, number_front, number_moved, length_front, length_moved, length_but_last, number_but_last, hit_leaves, miss_leaves, Serves, served_plays}
 use Rattle.younger_policies.specs.declared.two_queue_shares.TwoQueueShares.{TwoQueueShares}
 use Rattle.younger_policies.specs.declared.two_queue_shares.TwoQueueRooms.{TwoQueueRooms}
 use Rattle.younger_policies.specs.TwoQueues.{TwoQueuesState, rooms_of, recent_out, main_out, reclaimed, came_back, came, brought, used, in_two_queues, two_queues, two_queues_misses}

@@ -6,6 +6,7 @@ use Rattle.std.specs.Prelude.{ℕ, ◌+◌, ◌-◌, ◌*◌, ◌/◌, ◌==◌,
 use Rattle.clock_policy.specs.declared.key.Key.{Key}
 use Rattle.page_policies.specs.Strings.{holds, without, misses}
 use Rattle.page_policies.specs.Ordered.{to_front, last_of, but_last}
+use Rattle.younger_policies.specs.declared.arc.Arc.{Arc}
 
 pub record ArcState : Type 0 where
   pub t1 : List Key
@@ -101,3 +102,7 @@ arc c p s = cond (in_arc p s) (hit p s) (missed c p s)
 -- Set p = 0 and set the LRU lists T1, B1, T2, and B2 to empty.
 unfoldable pub arc_misses : ℕ → List Key → ℕ
 arc_misses c string = misses in_arc (arc c) (record { t1 = []; t2 = []; b1 = []; b2 = []; target = 0 }) string
+
+-- the counter as this definition sees it
+abbrev pub lists_of : Arc → ArcState
+lists_of s = record { t1 = s.t1; t2 = s.t2; b1 = s.b1; b2 = s.b2; target = s.target }

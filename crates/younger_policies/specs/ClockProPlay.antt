@@ -1,5 +1,6 @@
 -- CLOCK-Pro on a string: the replacement list asks for pages' marks, as a pager asks for accessed bits.
 use Rattle.std.specs.Prelude.{ℕ, zero, suc, ◌*◌, Bool, true, false, cond, not, List, Option, Some, None, Result, Ok, Err}
+use Rattle.std.specs.HashSet.{HashSet, contains}
 use Rattle.clock_policy.specs.declared.key.Key.{Key}
 use Rattle.clock_policy.specs.declared.answer.Bit.{Bit}
 use Rattle.clock_policy.specs.declared.answer.Bit.TheVariants.{Zero, One}
@@ -87,3 +88,7 @@ clock_pro_misses m string = misses in_play (clock_pro (5 * m)) (opening_play m) 
 
 unfoldable pub clock_pro_used_misses : ℕ → List Key → ℕ
 clock_pro_used_misses m string = misses in_play (clock_pro_used (5 * m)) (opening_play m) string
+
+-- the list and a set of pages as a play
+abbrev pub play_of : {S : Type 0} → ClockState → HashSet Key S → Play
+play_of clock used = record { clock = clock; used = λ q. contains is_page used q }

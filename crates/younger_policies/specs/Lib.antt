@@ -1,12 +1,6 @@
 pub mod TwoQueues
-pub mod TwoQueueLaws
 pub mod Arc
-pub mod ArcLaws
 pub mod Sieve
-pub mod SieveLaws
 pub mod S3Fifo
-pub mod S3FifoLaws
 pub mod ClockProPlay
-pub mod PlayLaws
 pub mod Lirs
-pub mod LirsLaws

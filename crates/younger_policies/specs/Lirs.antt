@@ -12,6 +12,7 @@ use Rattle.page_policies.specs.Ordered.{to_front, last_of, but_last}
 use Rattle.younger_policies.specs.TwoQueues.{out_with}
 use Rattle.younger_policies.specs.declared.lirs_shares.LirsShares.{LirsShares}
 use Rattle.younger_policies.specs.declared.lirs_shares.LirsRooms.{LirsRooms}
+use Rattle.younger_policies.specs.declared.lirs.Lirs.{Lirs}
 
 pub record LirsState : Type 0 where
   pub lir : List Key
@@ -113,3 +114,11 @@ lirs r p s = cond (holds p s.lir) (lir_used p s) (hir_used r p s)
 
 unfoldable pub lirs_misses : LirsShares → ℕ → List Key → ℕ
 lirs_misses shares m string = misses in_lirs (lirs (rooms_of shares m)) (record { lir = []; stack = []; queue = []; gone = [] }) string
+
+-- the counter as this definition sees it
+abbrev pub lists_of : Lirs → LirsState
+lists_of s = record { lir = s.lir; stack = s.stack; queue = s.queue; gone = s.gone }
+
+-- with other pages that are in no frame
+abbrev pub with_gone : List Key → LirsState → LirsState
+with_gone gone s = record { lir = s.lir; stack = s.stack; queue = s.queue; gone = gone }

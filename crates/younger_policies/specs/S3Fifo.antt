@@ -5,13 +5,16 @@
 -- has frames, at most; a page that comes back is a ghost no more; and a page that goes from S to M keeps its count, which no line clears.
 -- The text of section 4 says that it is cleared. Each of these may be asked for otherwise.
 use Rattle.std.specs.Prelude.{ℕ, zero, suc, ◌+◌, ◌-◌, ◌*◌, ◌/◌, Bool, true, cond, nat_lt, nat_le, min, max, List, [], length, Option, Some, None}
+use Rattle.std.specs.HashMap.{get}
 use Rattle.clock_policy.specs.declared.key.Key.{Key}
 use Rattle.page_policies.specs.Strings.{is_page, holds, without, misses}
 use Rattle.page_policies.specs.Ordered.{to_front, last_of, but_last, at_most}
+use Rattle.page_policies.specs.NextUses.{known}
 use Rattle.younger_policies.specs.declared.s3_fifo_shares.MovedCount.{MovedCount}
 use Rattle.younger_policies.specs.declared.s3_fifo_shares.MovedCount.TheVariants.{Keep, Clear}
 use Rattle.younger_policies.specs.declared.s3_fifo_shares.S3FifoShares.{S3FifoShares}
 use Rattle.younger_policies.specs.declared.s3_fifo_shares.S3FifoRooms.{S3FifoRooms}
+use Rattle.younger_policies.specs.declared.s3_fifo.S3Fifo.{S3Fifo}
 
 pub record S3FifoState : Type 0 where
   pub small : List Key
@@ -122,3 +125,7 @@ s3_fifo r p s = cond (in_s3_fifo p s) (used p s) (inserted p (room_made r 2 s))
 
 unfoldable pub s3_fifo_misses : S3FifoShares → ℕ → List Key → ℕ
 s3_fifo_misses shares m string = misses in_s3_fifo (s3_fifo (rooms_of shares m)) (record { small = []; main = []; ghosts = []; freq = λ q. 0 }) string
+
+-- the counter as this definition sees it
+abbrev pub queues_of : S3Fifo → S3FifoState
+queues_of s = record { small = s.small; main = s.main; ghosts = s.ghosts; freq = λ q. known (get is_page s.freq q) }

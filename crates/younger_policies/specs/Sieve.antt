@@ -4,9 +4,11 @@
 -- hand has passed. Where the pseudo-code leaves the hand NULL until the next eviction it is at the tail at once here: pages come in at the
 -- head, so that the tail is the same then.
 use Rattle.std.specs.Prelude.{ℕ, zero, suc, ◌+◌, ◌==◌, Bool, true, false, cond, nat_lt, List, [], length, Option, Some, None}
+use Rattle.std.specs.HashSet.{contains}
 use Rattle.clock_policy.specs.declared.key.Key.{Key}
 use Rattle.page_policies.specs.Strings.{is_page, holds, misses}
 use Rattle.page_policies.specs.Ordered.{to_front, last_of, but_last}
+use Rattle.younger_policies.specs.declared.sieve.Sieve.{Sieve}
 
 pub record SieveState : Type 0 where
   pub ahead : List Key
@@ -60,3 +62,7 @@ sieve m p s = cond (in_sieve p s) (visit p s) (inserted p (made_room m s))
 
 unfoldable pub sieve_misses : ℕ → List Key → ℕ
 sieve_misses m string = misses in_sieve (sieve m) (record { ahead = []; behind = []; visited = λ q. false }) string
+
+-- the counter as this definition sees it
+abbrev pub queue_of : Sieve → SieveState
+queue_of s = record { ahead = s.ahead; behind = s.behind; visited = λ q. contains is_page s.visited q }

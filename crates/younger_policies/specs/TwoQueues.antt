@@ -9,6 +9,7 @@ use Rattle.page_policies.specs.Strings.{holds, without, misses}
 use Rattle.page_policies.specs.Ordered.{to_front, last_of, but_last, at_most}
 use Rattle.younger_policies.specs.declared.two_queue_shares.TwoQueueShares.{TwoQueueShares}
 use Rattle.younger_policies.specs.declared.two_queue_shares.TwoQueueRooms.{TwoQueueRooms}
+use Rattle.younger_policies.specs.declared.two_queues.TwoQueues.{TwoQueues}
 
 pub record TwoQueuesState : Type 0 where
   pub a1in : List Key
@@ -68,3 +69,7 @@ two_queues r p s = cond (in_two_queues p s) (used p s) (brought r p s)
 
 unfoldable pub two_queues_misses : TwoQueueShares → ℕ → List Key → ℕ
 two_queues_misses shares m string = misses in_two_queues (two_queues (rooms_of shares m)) (record { a1in = []; a1out = []; am = [] }) string
+
+-- the counter as this definition sees it
+abbrev pub queues_of : TwoQueues → TwoQueuesState
+queues_of s = record { a1in = s.a1in; a1out = s.a1out; am = s.am }

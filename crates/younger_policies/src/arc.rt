@@ -5,8 +5,7 @@ ghost use Rattle.page_policies.specs.Strings.{misses as misses_by, holds};
 ghost use Rattle.younger_policies.specs.Arc.{step_of, takes_first, first_out, second_out, replaced};
 ghost use Rattle.younger_policies.specs.Arc.{hit, grown, shrunk, from_first, from_second, new_page};
 ghost use Rattle.younger_policies.specs.Arc.{fetched, without_b1, without_b2, without_t1, case_a};
-ghost use Rattle.younger_policies.specs.Arc.{case_b, all_pages, missed, in_arc, arc, arc_misses};
-ghost use Rattle.younger_policies.specs.ArcLaws.{lists_of};
+ghost use Rattle.younger_policies.specs.Arc.{case_b, all_pages, missed, in_arc, arc, arc_misses, lists_of};
 
 use clock_policy::Key;
 use page_policies::{Frames, HitOrMiss, Policy, PolicyRefusal, Queue};
@@ -101,7 +100,7 @@ impl Arc {
     }
 
     /// A page of B1 is fetched.
-    #[tactic(auto, using(crate::specs::ArcLaws::some_held))]
+    #[tactic(auto, using(crate::proofs::ArcLaws::some_held))]
     fn fetch_from_first(&mut self, page: Key) -> Result<(), AllocError>
         requires { holds page self.old.b1 ≡ true }
         ensures lists { OnOk result (lists_of self.new ≡ from_first page (replaced false (grown
@@ -115,7 +114,7 @@ impl Arc {
     }
 
     /// A page of B2 is fetched.
-    #[tactic(auto, using(crate::specs::ArcLaws::some_held))]
+    #[tactic(auto, using(crate::proofs::ArcLaws::some_held))]
     fn fetch_from_second(&mut self, page: Key) -> Result<(), AllocError>
         requires { holds page self.old.b2 ≡ true }
         ensures lists { OnOk result (lists_of self.new ≡ from_second page (replaced true (shrunk
@@ -197,7 +196,7 @@ impl Arc {
     }
 
     /// A page is used. Whether it was in a frame.
-    #[tactic(auto, using(page_policies::specs::QueueLaws::absent))]
+    #[tactic(auto, using(page_policies::proofs::QueueLaws::absent))]
     fn step(&mut self, page: Key) -> Result<bool, AllocError>
         ensures hit { IfOk result (λ hit. hit ≡ in_arc page (lists_of self.old)) }
         ensures lists { OnOk result (lists_of self.new ≡ arc self.old.frames page (lists_of

@@ -8,8 +8,7 @@ ghost use Rattle.clock_policy.specs.FrameCounts.{least_frames, most_frames};
 ghost use Rattle.page_policies.specs.Strings.{is_page, misses as misses_by};
 ghost use Rattle.younger_policies.specs.ClockProPlay.{is_resident_kind, in_play, bit_of, asked};
 ghost use Rattle.younger_policies.specs.ClockProPlay.{is_full_refusal, makes_room, placed, wants_by};
-ghost use Rattle.younger_policies.specs.ClockProPlay.{marked_used, clock_pro, clock_pro_misses};
-ghost use Rattle.younger_policies.specs.PlayLaws.{play_of};
+ghost use Rattle.younger_policies.specs.ClockProPlay.{marked_used, clock_pro, clock_pro_misses, play_of};
 
 use clock_policy::{Bit, Clock, EntryKind, Key, Kind, NewRefusal, Refusal, Verdict};
 use page_policies::{Frames, HitOrMiss, Policy, PolicyRefusal};

@@ -5,8 +5,7 @@ ghost use Rattle.std.specs.HashSet.{contains};
 ghost use Rattle.clock_policy.specs.FrameCounts.{least_frames, most_frames};
 ghost use Rattle.page_policies.specs.Strings.{is_page, misses as misses_by};
 ghost use Rattle.younger_policies.specs.ClockProPlay.{in_play, clock_pro_used};
-ghost use Rattle.younger_policies.specs.ClockProPlay.{clock_pro_used_misses};
-ghost use Rattle.younger_policies.specs.PlayLaws.{play_of};
+ghost use Rattle.younger_policies.specs.ClockProPlay.{clock_pro_used_misses, play_of};
 
 use crate::clock_pro::{is_resident_kind, mark_used, new_clock, place};
 use clock_policy::{Clock, Key};

@@ -6,8 +6,7 @@ ghost use Rattle.page_policies.specs.Strings.{holds, without, misses as misses_b
 ghost use Rattle.page_policies.specs.Ordered.{last_of, to_front};
 ghost use Rattle.younger_policies.specs.Lirs.{is_bottom_lir, without_bottom, pruned, demoted, made_lir, rooms_of};
 ghost use Rattle.younger_policies.specs.Lirs.{kept_hir, promoted, becomes_lir, cut, gone_with, is_over, placed, room_made};
-ghost use Rattle.younger_policies.specs.Lirs.{lir_used, hir_used, in_lirs, lirs, lirs_misses, usual_shares};
-ghost use Rattle.younger_policies.specs.LirsLaws.{lists_of, with_gone};
+ghost use Rattle.younger_policies.specs.Lirs.{lir_used, hir_used, in_lirs, lirs, lirs_misses, usual_shares, lists_of, with_gone};
 
 use crate::lirs_shares::{LirsRooms, LirsShares};
 use clock_policy::Key;

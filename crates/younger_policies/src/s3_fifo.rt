@@ -12,8 +12,7 @@ ghost use Rattle.younger_policies.specs.S3Fifo.{tail_freq, main_again, main_out,
 ghost use Rattle.younger_policies.specs.S3Fifo.{main_turned, main_cut, small_up, small_out};
 ghost use Rattle.younger_policies.specs.S3Fifo.{evicted_small, evicted, room_made, came_back, came};
 ghost use Rattle.younger_policies.specs.S3Fifo.{inserted, used, in_s3_fifo, s3_fifo};
-ghost use Rattle.younger_policies.specs.S3Fifo.{s3_fifo_misses};
-ghost use Rattle.younger_policies.specs.S3FifoLaws.{queues_of};
+ghost use Rattle.younger_policies.specs.S3Fifo.{s3_fifo_misses, queues_of};
 
 use crate::s3_fifo_shares::{MovedCount, S3FifoRooms, S3FifoShares};
 use clock_policy::Key;

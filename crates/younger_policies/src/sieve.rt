@@ -8,8 +8,7 @@ ghost use Rattle.page_policies.specs.Strings.{is_page, misses as misses_by};
 ghost use Rattle.page_policies.specs.Ordered.{last_of};
 ghost use Rattle.younger_policies.specs.Sieve.{wrapped, hand_visited, passed, discarded, swept};
 ghost use Rattle.younger_policies.specs.Sieve.{made_room, inserted, visit, in_sieve, sieve};
-ghost use Rattle.younger_policies.specs.Sieve.{sieve_misses, queue_length};
-ghost use Rattle.younger_policies.specs.SieveLaws.{queue_of};
+ghost use Rattle.younger_policies.specs.Sieve.{sieve_misses, queue_length, queue_of};
 
 use clock_policy::Key;
 use page_policies::{Frames, HitOrMiss, Policy, PolicyRefusal, Queue};

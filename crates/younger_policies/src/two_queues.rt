@@ -5,8 +5,7 @@ ghost use Rattle.clock_policy.specs.declared.key.Key.{Key};
 ghost use Rattle.page_policies.specs.Strings.{misses as misses_by};
 ghost use Rattle.younger_policies.specs.TwoQueues.{in_two_queues, recent_out, main_out, rooms_of};
 ghost use Rattle.younger_policies.specs.TwoQueues.{reclaimed, used, brought, two_queues};
-ghost use Rattle.younger_policies.specs.TwoQueues.{two_queues_misses, usual_shares};
-ghost use Rattle.younger_policies.specs.TwoQueueLaws.{queues_of};
+ghost use Rattle.younger_policies.specs.TwoQueues.{two_queues_misses, usual_shares, queues_of};
 
 use crate::two_queue_shares::{TwoQueueRooms, TwoQueueShares};
 use clock_policy::Key;

@@ -1,8 +1,10 @@
 -- What an access of a hart does to its process's memory is what a bus does.
-use Rattle.std.specs.Prelude.{◌≡◌, ℕ, ◌^◌, ◌<◌, List, [], Result, Ok, Err, OnErr, OnOk, ◌⊎◌}
+use Rattle.std.specs.Prelude.{◌≡◌, ℕ, ◌^◌, ◌<◌, true, List, [], Result, Ok, Err, OnErr, OnOk, ◌⊎◌}
 use Rattle.std.proofs.Common.{ap, sym, subst, ◌∙◌, inl, inr}
+use Rattle.std.proofs.Math.Logic.{∥∥₁_map}
 use Rattle.page_memory.specs.declared.fault.MemoryFault.{MemoryFault}
 use Rattle.page_memory.specs.declared.words.Access.{Access}
+use Rattle.page_memory.specs.declared.words.Access.TheVariants.{Store}
 use Rattle.page_memory.specs.Words.{page_number}
 use Rattle.rv_exec.specs.declared.bus.BusError.{BusError}
 use Rattle.rv_exec.specs.declared.bus.BusError.TheVariants.{Fault, Absent}
@@ -12,24 +14,39 @@ use Rattle.rv_exec.specs.Leaves.{Leaves, MissedBefore}
 use Rattle.rv_exec.specs.Uses.{page_of_access}
 use Rattle.sv32_table.specs.EntryAt.{entry_at}
 use Rattle.tlb_core.specs.declared.translation.Translation.{Translation}
-use Rattle.paged_memory.specs.access.Access.{HasPage, KeepsBare, LacksPage, MarksUse, ServesHeld, TakesStores, cache_of}
+use Rattle.paged_memory.specs.access.Access.{HasPage, KeepsBare, LacksPage, MarksUse, Serves, ServesHeld, TakesStores, cache_of}
 use Rattle.paged_memory.specs.access.Accesses.{AnswersAccess, Accesses, Reads, Reserves, Writes}
-use Rattle.paged_memory.specs.access.HartMemory.{InTurn, KeepsAccess, MarksSince, MarksWithin}
+use Rattle.paged_memory.specs.access.HartMemory.{InTurn, KeepsAccess, MarksWithin, UsedSince}
+use Rattle.paged_memory.specs.access.OwnCache.{FilledFrom}
+use Rattle.paged_memory.specs.access.OwnCacheLaws.{filled_on, goes_filled}
 use Rattle.paged_memory.specs.access.HartMemoryLaws.{access_written}
-use Rattle.paged_memory.specs.access.Missing.{MissesIn, TakesIn}
+use Rattle.paged_memory.specs.access.Missing.{MissesIn, TakesIn, TakesSince}
 use Rattle.paged_memory.specs.access.MissingLaws.{missed_behind, missed_now}
 use Rattle.paged_memory.specs.Paged.{PagedValue, memory_in, memory_of}
+use Rattle.paged_memory.proofs.access_laws.StoredLaws.{stored_dirty}
 use Rattle.paged_memory.proofs.Marking.{bounds_access, bounds_access_with, stores_of}
 use Rattle.paged_memory.specs.Seen.{takes_stores}
 use Rattle.paged_memory.proofs.Since.{answers_since, seen_written}
 
+-- the same of an answer with another value
+pub on_with : {A B : Type 0} (P : Type 0) (f : A → B) (r : Result A BusError) → OnOk r P → OnOk (with_answer f r) P
+on_with P f (Ok answer) is = is
+on_with P f (Err refusal) is = tt
+
 module _ {S : Type 0} (hart : ℕ) (access : Access) {A : Type 0} (address : ℕ) (result : Result A BusError) (old new : PagedValue S) where
-  -- the use of the page that it marks is marked since the hart's turn began
-  pub bus_answers : {B : Type 0} (opening : List Translation) (expected : Result B MemoryFault) (told : Result B BusError) → InTurn hart opening old
-      → Accesses hart access (page_number address) result old new → AnswersAccess hart access old new address expected told
-      → Answers (HasPage old.pages (cache_of old.caches hart)) (MarksSince new opening) (LacksPage old.pages) address expected told
-  bus_answers opening expected told turn accesses answers =
-      answers_since hart opening access old new turn (seen_written old.pages new.pages accesses.bare) (HasPage old.pages (cache_of old.caches hart)) (LacksPage old.pages) address expected told accesses.small answers
+  -- what the access filled
+  filled_now : (opening : List Translation) → InTurn hart opening old → Accesses hart access (page_number address) result old new → ∥ FilledFrom (λ _. true) opening (cache_of new.caches hart) ∥₁
+  filled_now opening turn accesses = ∥∥₁_map turn.filled (λ filled.
+      filled_on (λ _. true) opening (cache_of old.caches hart) (cache_of new.caches hart) filled
+      (goes_filled (page_number address) old.tables new.tables (cache_of old.caches hart) (cache_of new.caches hart) accesses.uses.kept.fills).filled)
+
+  -- the use of the page that it marks is marked since the hart's turn began, and the hart's cache shows the page; by a hart of the same number
+  pub bus_answers : {B : Type 0} (hart' : ℕ) (opening : List Translation) (expected : Result B MemoryFault) (told : Result B BusError) → hart' ≡ hart → InTurn hart opening old
+      → OnOk told (Serves (cache_of new.caches hart) access (page_number address)) → Accesses hart access (page_number address) result old new → AnswersAccess hart access old new address expected told
+      → Answers (HasPage old.pages (cache_of old.caches hart)) (UsedSince hart' new opening) (LacksPage old.pages) address expected told
+  bus_answers hart' opening expected told same turn shown accesses answers =
+      subst (λ h. Answers (HasPage old.pages (cache_of old.caches hart)) (UsedSince h new opening) (LacksPage old.pages) address expected told) (sym same)
+      (answers_since hart opening access old new turn (seen_written old.pages new.pages accesses.bare) (filled_now opening turn accesses) (HasPage old.pages (cache_of old.caches hart)) (LacksPage old.pages) address expected told accesses.small shown answers)
 
   -- no mark but the page's own rises
   pub bus_bound : (expected : Result A MemoryFault) → Accesses hart access (page_number address) result old new → AnswersAccess hart access old new address expected result
@@ -102,6 +119,16 @@ module _ {S : Type 0} (hart : ℕ) (access : Access) {A : Type 0} (address : ℕ
   takes_now (Ok answer) small bare takes = (small, ap (λ s. takes_stores s (entry_at new.tables (page_number address))) (seen_written old.pages new.pages bare (page_number address)) ∙ takes)
   takes_now (Err refusal) small bare takes = tt
 
+  -- and the page has D where no translation served the store that the hart had when its turn began
+  since_now : {B : Type 0} (opening : List Translation) (r : Result A BusError) (expected : Result B MemoryFault) (f : A → B) → access ≡ Store → InTurn hart opening old
+      → Writes hart access (page_number address) r old new → AnswersAccess hart access old new address expected (with_answer f r) → OnOk r (TakesSince new opening (page_number address))
+  since_now opening (Ok answer) expected f store turn writes answers = (
+    takes_now (Ok answer) writes.accesses.small writes.accesses.bare writes.takes,
+    stored_dirty hart access (page_number address) opening old new store writes.accesses.small turn (seen_written old.pages new.pages writes.accesses.bare)
+        (λ served. (writes.accesses.uses.served served).0) (writes.accesses.uses.dirtied store) answers.1.1,
+  )
+  since_now opening (Err refusal) expected f store turn writes answers = tt
+
   -- of one that loads
   pub bus_leaves : (expected : Result A MemoryFault) (answered : Type 0) → answered → Accesses hart access (page_number address) result old new → AnswersAccess hart access old new address expected result
       → Leaves answered (MissesIn old hart [] access) result
@@ -112,10 +139,10 @@ module _ {S : Type 0} (hart : ℕ) (access : Access) {A : Type 0} (address : ℕ
   bus_leaves_with expected f accesses answers = leaves_by (Unit {0}) result expected f (on_any (Unit {0}) result tt) accesses.uses.held answers
 
   -- of one that stores
-  pub bus_leaves_written : {B : Type 0} (expected : Result B MemoryFault) (f : A → B) → Writes hart access (page_number address) result old new → AnswersAccess hart access old new address expected (with_answer f result)
-      → Leaves (TakesIn new (page_number address)) (MissesIn old hart [] access) result
-  bus_leaves_written expected f writes answers =
-      leaves_by (TakesIn new (page_number address)) result expected f (takes_now result writes.accesses.small writes.accesses.bare writes.takes) writes.accesses.uses.held answers
+  pub bus_leaves_written : {B : Type 0} (opening : List Translation) (expected : Result B MemoryFault) (f : A → B) → access ≡ Store → InTurn hart opening old → Writes hart access (page_number address) result old new
+      → AnswersAccess hart access old new address expected (with_answer f result) → Leaves (TakesSince new opening (page_number address)) (MissesIn old hart [] access) result
+  bus_leaves_written opening expected f store turn writes answers =
+      leaves_by (TakesSince new opening (page_number address)) result expected f (since_now opening result expected f store turn writes answers) writes.accesses.uses.held answers
 
   -- what is missed behind a fetch, by a hart of the same number
   pub bus_missed : (hart' : ℕ) → hart' ≡ hart → Accesses hart access (page_number address) result old new → MissedBefore (MissesIn old hart) (MissesIn new hart') (page_number address)

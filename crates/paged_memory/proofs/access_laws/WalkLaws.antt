@@ -178,28 +178,29 @@ module _ {S : Type 0} {held : S → List ℕ} {honest : Type 0} {pages : List (�
               absurd (true≢false (sym now ∙ ap is_some gone))
 
       -- the walk fills the page's translation, and changes no other page's entry
-      fills_walked : OnePerPage (cache_of caches hart) → MayFill number tables tables' (cache_of caches hart) (cache_of cached hart)
-      fills_walked apart = inr (record {
+      fills_walked : OnePerPage (cache_of caches hart) → ((p : ℕ) → ¬ Hits (cache_of caches hart) access number p) → MayFill number tables tables' (cache_of caches hart) (cache_of cached hart)
+      fills_walked apart missed = inr (record {
         entry = translation place;
         page_is = refl;
         live = refl;
         dirty = refl;
         rest = λ q in_range other. entries q in_range ∙ choice_other q number (walked_entry (entry_at tables number) access) (entry_at tables q) (other_test q number other);
         apart = apart;
+        missed = (access, (allowed, missed));
         is = cache_now;
       })
 
-      pub keeps_walked : OnePerPage (cache_of caches hart) → KeepsTranslations pages hart number tables tables' caches cached
-      keeps_walked apart =
+      pub keeps_walked : OnePerPage (cache_of caches hart) → ((p : ℕ) → ¬ Hits (cache_of caches hart) access number p) → KeepsTranslations pages hart number tables tables' caches cached
+      keeps_walked apart missed =
           record {
             harts = length-set caches hart (filled (translation place) (slice_index_or caches hart []));
             others = λ h apart. get_or-set_other caches hart h (filled (translation place) (slice_index_or caches hart [])) [] apart;
             used = rises is_used (λ _. used_now);
             changed = rises is_dirty changed_on;
             held = held_before;
-            doomed = (goes_filled number tables tables' (cache_of caches hart) (cache_of cached hart) (fills_walked apart)).doomed;
+            doomed = (goes_filled number tables tables' (cache_of caches hart) (cache_of cached hart) (fills_walked apart missed)).doomed;
             tabled = same;
-            fills = fills_walked apart;
+            fills = fills_walked apart missed;
           }
 
 -- what a walk comes to
@@ -222,10 +223,11 @@ true_more false dirty is = cc
 
 pub walk_done : {S : Type 0} {held : S → List ℕ} {honest : Type 0} {pages : List (ℕ × PageValue S)} {tables : List (List ℕ)} {caches : List (List Translation)} (tables' : List (List ℕ)) (caches' : List (List Translation)) (number hart place frame : ℕ) (rights : Rights) (dirty : Bool) (access : Access) → number < 2 ^ 20 → hart < length caches → Holds held honest pages tables caches → Locates pages access number place frame rights
     → ChangesEntry tables tables' number (walked_entry (entry_at tables number) access) → SameTables tables tables' → dirty ≡ dirty_of (entry_at tables' number) → OnePerPage (cache_of caches hart)
+    → ((p : ℕ) → ¬ Hits (cache_of caches hart) access number p)
     → caches' ≡ slice_set caches hart (filled (record { page = number; place = place; frame = frame; rights = rights; dirty = dirty; doomed = false }) (slice_index_or caches hart []))
     → Walked held honest pages tables tables' caches caches' hart access number place
 unfolding page_at
-walk_done {S} {held} {honest} {pages} {tables} {caches} tables' caches' number hart place frame rights dirty access small within holds at entries same told apart filled_is =
+walk_done {S} {held} {honest} {pages} {tables} {caches} tables' caches' number hart place frame rights dirty access small within holds at entries same told apart missed filled_is =
     record {
       holds = subst (λ cs. Holds held honest pages tables' cs) (sym caches_are) (holds_cached tables' number small holds at.resident access at.allowed entries same place hart within at.at);
       reaches = record {
@@ -240,7 +242,7 @@ walk_done {S} {held} {honest} {pages} {tables} {caches} tables' caches' number h
           (subst (λ c. Hits c access number place) (sym (cache_now tables' number small holds at.resident access at.allowed entries same place hart within))
           (hits_filled access (translation tables' number small holds at.resident access at.allowed entries same place) (cache_of caches hart) at.allowed
           (λ is. told_dirty tables' number small holds at.resident access at.allowed entries same ∙ true_more (is_store access) (entry_at tables number).dirty (store_told access is))));
-      kept = subst (λ cs. KeepsTranslations pages hart number tables tables' caches cs) (sym caches_are) (keeps_walked tables' number small holds at.resident access at.allowed entries same place hart within apart);
+      kept = subst (λ cs. KeepsTranslations pages hart number tables tables' caches cs) (sym caches_are) (keeps_walked tables' number small holds at.resident access at.allowed entries same place hart within apart missed);
       used = used_now tables' number small holds at.resident access at.allowed entries same;
       dirtied = λ is.
           ap (λ s. is_dirty s (entry_at tables' number)) (seen_resident number small holds at.resident)

@@ -8,7 +8,7 @@ use Rattle.std.specs.FinMap.{get, from_entries, get-insert}
 use Rattle.page_memory.specs.Entries.{place_of, value_at, with_value}
 use Rattle.page_memory.proofs.EntriesLaws.{equal_by_order, value_by_place, replaced_value, put_back, place_of-with_value}
 use Rattle.page_memory.proofs.StandsForLaws.{value-changes, map_by-same}
-use Rattle.page_store.specs.PageValue.{PageValue, frame_of, Backed}
+use Rattle.page_store.specs.PageValue.{PageValue, frame_of, failures_at, Backed}
 use Rattle.sv32_table.specs.Entry.{Entry}
 use Rattle.sv32_table.specs.EntryAt.{entry_at, has_table, ChangesEntry}
 use Rattle.tlb_core.specs.declared.translation.Translation.{Translation}
@@ -17,6 +17,7 @@ use Rattle.paged_memory.specs.Seen.{frame_seen, rights_seen, is_used}
 use Rattle.paged_memory.specs.Soundness.{IsMapped}
 use Rattle.paged_memory.proofs.SoundnessLaws.{ChangesAt, Unheld, Unmarked, Stays, changed_unheld, changed_held, changed_unmarked, changed_doomed}
 use Rattle.paged_memory.specs.Calls.{ChangesBy}
+use Rattle.paged_memory.specs.moves.Filling.{failures_of}
 use Rattle.paged_memory.specs.Paged.{seen_of, page_at, seen_at, flat_page, flat_pages, ArePlaced, Holds, IsConstant, ChangesPage}
 
 pub swap_key : {A : Type 0} (q number : ℕ) (x y : A) → cond (eq_by_cmp nat_cmp q number) x y ≡ (if q == number then x else y)
@@ -76,6 +77,13 @@ changes_no_entry tables number q small = same_where (entry_at tables) number q (
 
 pub choice_here : {A : Type 0} (number : ℕ) (x y : A) → (if number == number then x else y) ≡ x
 choice_here number x y = ap (λ b. cond b x y) (eq-eqb number number refl)
+
+-- another value at a page's place, whose slot tells of as many failures
+pub failures_placed : {S : Type 0} (failures : S → ℕ) (pages : List (ℕ × PageValue S)) (number place : ℕ) (page page' : PageValue S) → place_of number pages ≡ Some place → value_at place pages ≡ Some page
+    → failures_at failures page'.place ≡ failures_at failures page.place → failures_of failures (page_at (with_value pages place page') number) ≡ failures_of failures (page_at pages number)
+failures_placed failures pages number place page page' at is same =
+    ap (failures_of failures) (page_at-with_value pages number place page' at number ∙ choice_here number (Some page') (page_at pages number))
+    ∙ same ∙ sym (ap (failures_of failures) (page_at-place pages number place page at is))
 
 pub choice_other : {A : Type 0} (q number : ℕ) (x y : A) → (q == number) ≡ false → (if q == number then x else y) ≡ y
 choice_other q number x y other = ap (λ b. cond b x y) other

@@ -1,6 +1,7 @@
 -- What a hart's accesses keep, over several of them.
-use Rattle.std.specs.Prelude.{◌≡◌, ℕ, ◌⊎◌, true, false, is_some, option_map, Option, Some, None, List, [], length, slice_index_or, refl}
-use Rattle.std.proofs.Common.{sym, ap, ◌∙◌, subst, arith, inl, inr}
+use Rattle.std.specs.Prelude.{◌≡◌, ℕ, ◌<◌, ◌⊎◌, true, false, is_some, option_map, Option, Some, None, List, [], length, slice_index_or, refl}
+use Rattle.std.proofs.Common.{sym, ap, ◌∙◌, subst, arith, inl, inr, true≢false}
+use Rattle.std.proofs.Math.Logic.{∥∥₁_map}
 use Rattle.std.proofs.lemmas.Bool.Decides.{eqb_tells}
 use Rattle.std.proofs.lemmas.Option.{none-some, same_Some}
 use Rattle.page_store.specs.PageValue.{PageValue, Place, Fresh, Resident, Leaving, Saving, Away, Purged, fresh_zero_page}
@@ -10,11 +11,11 @@ use Rattle.tlb_core.specs.declared.translation.Translation.{Translation}
 use Rattle.tlb_core.specs.Cache.{translation_of}
 use Rattle.paged_memory.specs.Seen.{Seen, is_used, is_dirty, takes_stores}
 use Rattle.paged_memory.specs.Paged.{PagedValue, standing_of, seen_of, page_at, seen_at}
-use Rattle.paged_memory.specs.access.Access.{HasPage, LacksPage, KeepsBare, KeepsTranslations, TakesStores, is_resident}
+use Rattle.paged_memory.specs.access.Access.{HasPage, LacksPage, KeepsBare, KeepsTranslations, TakesStores, cache_of, is_resident}
 use Rattle.paged_memory.specs.cleaning.CopiesLaws.{copies_itself, copies_on, copies_kept}
-use Rattle.paged_memory.specs.access.OwnCache.{GoesOn, KeepsDoomed}
-use Rattle.paged_memory.specs.access.OwnCacheLaws.{goes_itself, goes_on, goes_filled}
-use Rattle.paged_memory.specs.access.HartMemory.{InTurn, KeepsPages, KeepsAccess, MarksSince, ServedBefore}
+use Rattle.paged_memory.specs.access.OwnCache.{FilledFrom, GoesOn, KeepsDoomed}
+use Rattle.paged_memory.specs.access.OwnCacheLaws.{filled_itself, filled_on, goes_itself, goes_on, goes_filled, of_first}
+use Rattle.paged_memory.specs.access.HartMemory.{InTurn, KeepsPages, KeepsAccess, MarksSince, ServedBefore, UsedSince, WasShown}
 
 -- what went through a translation that is to be dropped went through the one that was there before
 pub served_before : (page : ℕ) (cache opening : List Translation) → KeepsDoomed opening cache → ServedBefore cache page → ServedBefore opening page
@@ -32,6 +33,14 @@ served_before page cache opening kept before = record {
     doomed = before.served.doomed;
   };
 }
+
+-- a cache that showed a page goes on to
+pub shown_on : (opening between cache : List Translation) (page : ℕ) → FilledFrom (λ _. true) between cache → WasShown opening between page → WasShown opening cache page
+unfolding filled_on
+shown_on opening between cache page filled was = ∥∥₁_map was (λ one. record {
+  filled = filled_on (λ _. true) opening between cache one.filled filled;
+  shown = elim one.shown [ inl there ↦ inl there | inr new ↦ inr (of_first one.filled.more filled.more page new) ];
+})
 
 module _ {S : Type 0} where
   -- what translation sees of a page does not rest on its frame's bytes
@@ -156,6 +165,12 @@ module _ {S : Type 0} where
   marked hart page opening old new kept (small, inl used) = (small, inl (kept.used page small used))
   marked hart page opening old new kept (small, inr doomed) = (small, inr doomed)
 
+  pub used_since : (hart page : ℕ) (opening : List Translation) (old new : PagedValue S) → KeepsAccess hart old new → UsedSince hart old opening page → UsedSince hart new opening page
+  used_since hart page opening old new kept used = (
+    marked hart page opening old new kept used.0,
+    shown_on opening (cache_of old.caches hart) (cache_of new.caches hart) page kept.goes.filled used.1,
+  )
+
   -- ---- one access
 
   written_pages : {number : ℕ} (old new : List (ℕ × PageValue S)) → KeepsBare number old new → KeepsPages old new
@@ -223,4 +238,18 @@ module _ {S : Type 0} where
   still_in_turn hart number opening old new turn kept = record {
     started = (let was = turn.started in let same = kept.harts in omega (arith, was, same));
     doomed = λ page t found is. turn.doomed page t (kept.doomed page t found is) is;
+    filled = ∥∥₁_map turn.filled (λ filled. filled_on (λ _. true) opening (cache_of old.caches hart) (cache_of new.caches hart) filled (goes_filled number old.tables new.tables (cache_of old.caches hart) (cache_of new.caches hart) kept.fills).filled);
+    marked = λ page t small found dirty clean. elim ((goes_filled number old.tables new.tables (cache_of old.caches hart) (cache_of new.caches hart) kept.fills).carried page t small found) [
+      | inl was ↦ turn.marked page t small was.0 dirty (sym was.1 ∙ clean)
+      | inr filled ↦ absurd (true≢false (sym dirty ∙ filled.1 ∙ clean))
+    ];
+  }
+
+  -- it begins
+  pub turn_opens : (hart : ℕ) (opening : List Translation) (memory : PagedValue S) → hart < length memory.caches → cache_of memory.caches hart ≡ opening → InTurn hart opening memory
+  turn_opens hart opening memory started same = record {
+    started = started;
+    doomed = λ page t found is. ap (translation_of page) (sym same) ∙ found;
+    filled = ∣ subst (λ c. FilledFrom (λ _. true) opening c) (sym same) (filled_itself (λ _. true) opening) ∣₁;
+    marked = λ page t small found dirty clean. ap (translation_of page) (sym same) ∙ found;
   }

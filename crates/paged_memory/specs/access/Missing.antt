@@ -1,12 +1,15 @@
 -- What an access of a hart leaves, from below: a page that was stored to takes stores, and a hart's cache did not show a page that was
 -- absent to it.
-use Rattle.std.specs.Prelude.{ℕ, ◌^◌, ◌<◌, ◌==◌, ◌||◌, Bool, false, List, [], ◌∷◌}
+use Rattle.std.specs.Prelude.{◌≡◌, ◌⊎◌, ℕ, ◌^◌, ◌<◌, ◌==◌, ◌||◌, Bool, true, false, List, [], ◌∷◌}
 use Rattle.page_memory.specs.declared.words.Access.{Access}
+use Rattle.page_memory.specs.declared.words.Access.TheVariants.{Store}
+use Rattle.sv32_table.specs.EntryAt.{entry_at}
 use Rattle.tlb_core.specs.declared.translation.Translation.{Translation}
 use Rattle.tlb_core.specs.Cache.{Hits}
-use Rattle.paged_memory.specs.access.Access.{TakesStores}
+use Rattle.paged_memory.specs.access.Access.{Serves, TakesStores}
 use Rattle.paged_memory.specs.access.OwnCache.{FilledFrom}
-use Rattle.paged_memory.specs.Paged.{PagedValue}
+use Rattle.paged_memory.specs.Paged.{PagedValue, seen_at}
+use Rattle.paged_memory.specs.Seen.{is_dirty}
 use Rattle.paged_memory.specs.access.Using.{cache_in}
 
 -- whether a page is one of these
@@ -29,3 +32,8 @@ module _ {S : Type 0} where
   -- a page takes stores: its dirty bit tells of them, or it is changed whatever that says, with no copy of it out
   abbrev pub TakesIn : PagedValue S → ℕ → Type 0
   TakesIn memory page = (page < 2 ^ 20) × TakesStores memory.pages memory.tables page
+
+  -- a page that was stored to takes stores; and its dirty bit is set, unless one of these translations serves stores, which the hart had when
+  -- its turn began
+  abbrev pub TakesSince : PagedValue S → List Translation → ℕ → Type 0
+  TakesSince memory opening page = TakesIn memory page × (Serves opening Store page ⊎ (is_dirty (seen_at memory.pages page) (entry_at memory.tables page) ≡ true))

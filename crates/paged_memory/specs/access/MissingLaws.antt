@@ -1,6 +1,6 @@
 -- Laws of what an access of a hart leaves, from below.
 use Rattle.std.specs.Prelude.{◌≡◌, ℕ, ◌^◌, ◌<◌, ◌==◌, ◌||◌, Bool, true, false, List, [], ◌∷◌, refl}
-use Rattle.std.proofs.Common.{ap, eq-eqb}
+use Rattle.std.proofs.Common.{ap, eq-eqb, inl, inr}
 use Rattle.std.proofs.lemmas.List.Elements.{All-weaker}
 use Rattle.page_memory.specs.declared.words.Access.{Access}
 use Rattle.rv_exec.specs.Leaves.{MissedBefore}
@@ -9,7 +9,7 @@ use Rattle.tlb_core.specs.declared.translation.Translation.{Translation}
 use Rattle.tlb_core.specs.Cache.{Hits}
 use Rattle.paged_memory.specs.access.HartMemory.{KeepsAccess, KeepsPages}
 use Rattle.paged_memory.specs.access.HartMemoryLaws.{by_seen}
-use Rattle.paged_memory.specs.access.Missing.{is_among, MissesBehind, TakesIn}
+use Rattle.paged_memory.specs.access.Missing.{is_among, MissesBehind, TakesIn, TakesSince}
 use Rattle.paged_memory.specs.access.OwnCache.{FilledFrom, MayFill}
 use Rattle.paged_memory.specs.access.OwnCacheLaws.{filled_itself, filled_on, filled_page}
 use Rattle.paged_memory.specs.Paged.{PagedValue, seen_at}
@@ -34,6 +34,7 @@ filled_weaker test test' old new more was = record {
   more = was.more;
   of_pages = All-weaker (λ (t : Translation). test t.page ≡ true) (λ (t : Translation). test' t.page ≡ true) (λ t is. more t.page is) was.more was.of_pages;
   live = was.live;
+  missed = was.missed;
   is = was.is;
 }
 
@@ -69,3 +70,9 @@ module _ {S : Type 0} where
 
   pub takes_kept : (hart page : ℕ) (old new : PagedValue S) → KeepsAccess hart old new → TakesIn old page → TakesIn new page
   takes_kept hart page old new kept taken = takes_with page old new kept.pages kept.changed taken
+
+  pub since_kept : (hart page : ℕ) (opening : List Translation) (old new : PagedValue S) → KeepsAccess hart old new → TakesSince old opening page → TakesSince new opening page
+  since_kept hart page opening old new kept taken = (
+    takes_kept hart page old new kept taken.0,
+    elim taken.1 [ inl served ↦ inl served | inr dirty ↦ inr (kept.changed page taken.0.0 dirty) ],
+  )

@@ -1,5 +1,5 @@
 -- A hart's cache over several of its accesses.
-use Rattle.std.specs.Prelude.{◌≡◌, ◌≢◌, ℕ, ◌==◌, ◌⊎◌, Bool, true, false, Some, List, [], ◌∷◌, ◌++◌, Contains, refl}
+use Rattle.std.specs.Prelude.{◌≡◌, ◌≢◌, ℕ, ◌==◌, ◌||◌, ◌⊎◌, Bool, true, false, Some, List, [], ◌∷◌, ◌++◌, Contains, refl}
 use Rattle.std.proofs.Common.{sym, ap, ◌∙◌, subst, inl, inr, true≢false, eqb-true, eq-eqb}
 use Rattle.std.proofs.lemmas.List.Elements.{All-nil, All-cons, All-append, All-weaker, All-contains_itself}
 use Rattle.std.proofs.lemmas.Option.{same_Some}
@@ -7,10 +7,10 @@ use Rattle.sv32_table.specs.EntryAt.{entry_at, dirty_of}
 use Rattle.tlb_core.specs.declared.translation.Translation.{Translation}
 use Rattle.tlb_core.specs.Cache.{OnePerPage, filled, translation_of}
 use Rattle.tlb_core.proofs.CacheLaws.{All-entry_of, All-filled, filled_finds, found_at, page-entry_of}
-use Rattle.paged_memory.specs.access.OwnCache.{fills, FilledFrom, KeepsDoomed, CarriesDirty, GoesOn, WalkFills, MayFill}
+use Rattle.paged_memory.specs.access.OwnCache.{fills, fills_of, EachMissed, FilledFrom, MissesOne, KeepsDoomed, CarriesDirty, GoesOn, WalkFills, MayFill}
 
 -- translations that are filled behind others
-fills-append : (first second cache : List Translation) → fills (first ++ second) cache ≡ fills second (fills first cache)
+pub fills-append : (first second cache : List Translation) → fills (first ++ second) cache ≡ fills second (fills first cache)
 unfolding fills
 fills-append [] second cache = refl
 fills-append (t ∷ first) second cache = fills-append first second (filled t cache)
@@ -22,6 +22,41 @@ fills_none cache = refl
 fills_one : (t : Translation) (cache : List Translation) → fills (t ∷ []) cache ≡ filled t cache
 unfolding fills
 fills_one t cache = refl
+
+-- each was missed
+
+missed_none : (cache : List Translation) → EachMissed [] cache
+unfolding EachMissed
+missed_none cache = tt
+
+missed_one : (t : Translation) (cache : List Translation) → MissesOne cache t → EachMissed (t ∷ []) cache
+unfolding EachMissed
+missed_one t cache misses = (misses, tt)
+
+pub missed-append : (first second cache : List Translation) → EachMissed first cache → EachMissed second (fills first cache) → EachMissed (first ++ second) cache
+unfolding EachMissed fills
+missed-append [] second cache none missed = missed
+missed-append (t ∷ first) second cache some missed = (some.0, missed-append first second (filled t cache) some.1 missed)
+
+-- a page of one of them
+
+pub or_more : (a b : Bool) → b ≡ true → (a || b) ≡ true
+or_more true b is = refl
+or_more false b is = is
+
+of_one : (t : Translation) (page : ℕ) → (t.page == page) ≡ true → fills_of (t ∷ []) page ≡ true
+unfolding fills_of
+of_one t page is = ap (λ b. b || false) is
+
+pub of_first : (first second : List Translation) (page : ℕ) → fills_of first page ≡ true → fills_of (first ++ second) page ≡ true
+unfolding fills_of
+of_first [] second page is = cc
+of_first (t ∷ first) second page is = elim (t.page == page) as (λ b. (b || fills_of first page) ≡ true → (b || fills_of (first ++ second) page) ≡ true) [ true ↦ λ _. refl | false ↦ λ h. of_first first second page h ] is
+
+pub of_second : (first second : List Translation) (page : ℕ) → fills_of second page ≡ true → fills_of (first ++ second) page ≡ true
+unfolding fills_of
+of_second [] second page is = is
+of_second (t ∷ first) second page is = or_more (t.page == page) (fills_of (first ++ second) page) (of_second first second page is)
 
 -- a translation of another page that is found after one was filled was found before
 found_before : (e t : Translation) (q : ℕ) (cache : List Translation) → OnePerPage cache → q ≢ e.page → translation_of q (filled e cache) ≡ Some t → translation_of q cache ≡ Some t
@@ -38,13 +73,14 @@ found_before e t q cache apart other found =
 -- ---- translations that were filled since
 
 pub filled_itself : (test : ℕ → Bool) (cache : List Translation) → FilledFrom test cache cache
-filled_itself test cache = record { more = []; of_pages = All-nil _; live = All-nil _; is = sym (fills_none cache) }
+filled_itself test cache = record { more = []; of_pages = All-nil _; live = All-nil _; missed = missed_none cache; is = sym (fills_none cache) }
 
-pub filled_on : (test : ℕ → Bool) (old between new : List Translation) → FilledFrom test old between → FilledFrom test between new → FilledFrom test old new
+unfoldable pub filled_on : (test : ℕ → Bool) (old between new : List Translation) → FilledFrom test old between → FilledFrom test between new → FilledFrom test old new
 filled_on test old between new first second = record {
   more = first.more ++ second.more;
   of_pages = All-append (λ (t : Translation). test t.page ≡ true) first.more second.more first.of_pages second.of_pages;
   live = All-append (λ (t : Translation). t.doomed ≡ false) first.more second.more first.live second.live;
+  missed = missed-append first.more second.more old first.missed (subst (EachMissed second.more) first.is second.missed);
   is = second.is ∙ ap (fills second.more) first.is ∙ sym (fills-append first.more second.more old);
 }
 
@@ -55,6 +91,7 @@ filled_page test page tables tables' old new passes (inr walk) = record {
   more = walk.entry ∷ [];
   of_pages = All-cons (λ (t : Translation). test t.page ≡ true) walk.entry [] (ap test walk.page_is ∙ passes) (All-nil _);
   live = All-cons (λ (t : Translation). t.doomed ≡ false) walk.entry [] walk.live (All-nil _);
+  missed = missed_one walk.entry old walk.missed;
   is = walk.is ∙ sym (fills_one walk.entry old);
 }
 
@@ -65,6 +102,7 @@ goes_itself tables cache = record {
   filled = filled_itself (λ _. true) cache;
   doomed = λ page t found is. found;
   carried = λ page t small found. inl (found, refl);
+  raised = λ page small. inr refl;
 }
 
 pub doomed_on : (old between new : List Translation) → KeepsDoomed old between → KeepsDoomed between new → KeepsDoomed old new
@@ -80,10 +118,15 @@ carried_on tables tables' tables'' old between new first second = λ page t smal
 ]
 
 pub goes_on : (tables tables' tables'' : List (List ℕ)) (old between new : List Translation) → GoesOn tables tables' old between → GoesOn tables' tables'' between new → GoesOn tables tables'' old new
+unfolding filled_on
 goes_on tables tables' tables'' old between new first second = record {
   filled = filled_on (λ _. true) old between new first.filled second.filled;
   doomed = doomed_on old between new first.doomed second.doomed;
   carried = carried_on tables tables' tables'' old between new first.carried second.carried;
+  raised = λ page small. elim (first.raised page small) [
+    | inl one ↦ inl (of_first first.filled.more second.filled.more page one)
+    | inr same ↦ elim (second.raised page small) [ inl one ↦ inl (of_second first.filled.more second.filled.more page one) | inr same' ↦ inr (same' ∙ same) ]
+  ];
 }
 
 -- over one access
@@ -119,9 +162,14 @@ module _ (page : ℕ) (tables tables' : List (List ℕ)) (old new : List Transla
           inl (found_before walk.entry t q old walk.apart (λ e. apart (e ∙ walk.page_is)) found_filled, ap dirty_of (walk.rest q small apart))
 
   pub goes_filled : MayFill page tables tables' old new → GoesOn tables tables' old new
+  unfolding filled_page
   goes_filled (inl same) = subst (λ (t : List (List ℕ)). GoesOn tables t old new) (sym same.0) (subst (λ (c : List Translation). GoesOn tables tables old c) (sym same.1) (goes_itself tables old))
   goes_filled (inr walk) = record {
     filled = filled_page (λ _. true) page tables tables' old new refl (inr walk);
     doomed = walk_doomed walk;
     carried = walk_carried walk;
+    raised = λ q small. elim (q == page) as (λ b. (q == page) ≡ b → (fills_of (walk.entry ∷ []) q ≡ true) ⊎ (entry_at tables' q ≡ entry_at tables q)) [
+      | true ↦ λ same. inl (of_one walk.entry q (eq-eqb walk.entry.page q (walk.page_is ∙ sym (eqb-true q page same))))
+      | false ↦ λ other. inr (walk.rest q small (λ e. true≢false (sym (eq-eqb q page e) ∙ other)))
+    ] refl;
   }

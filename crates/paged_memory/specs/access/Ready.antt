@@ -2,7 +2,7 @@
 use Rattle.std.specs.Prelude.{◌≡◌, ℕ, ◌^◌, ◌<◌, List}
 use Rattle.page_memory.specs.declared.words.Access.{Access}
 use Rattle.page_memory.specs.declared.words.Access.TheVariants.{Store}
-use Rattle.paged_memory.specs.access.Access.{MarksUse, TakesStores}
+use Rattle.paged_memory.specs.access.Access.{MarksUse, Serves, TakesStores}
 use Rattle.paged_memory.specs.Coheres.{Coheres}
 use Rattle.paged_memory.specs.access.HartMemory.{KeepsAccess}
 use Rattle.paged_memory.specs.moves.Moving.{OnlyPages}
@@ -10,12 +10,14 @@ use Rattle.paged_memory.specs.Paged.{PagedValue, seen_at}
 use Rattle.paged_memory.specs.access.Using.{cache_in, HasIn}
 
 module _ {S : Type 0} where
-  -- a page is at hand for a hart's accesses of a kind: the hart has it, their use of it is marked, and for stores it takes them
+  -- a page is at hand for a hart's accesses of a kind: the hart has it, a translation serves them, their use of it is marked, and for stores
+  -- it takes them
   pub record ServesIn (memory : PagedValue S) (hart : ℕ) (access : Access) (page : ℕ) : Type 0 where
     pub small : page < 2 ^ 20
     pub has : HasIn memory hart page
     pub marked : MarksUse memory.pages memory.tables (cache_in memory hart) access page
     pub takes : access ≡ Store → TakesStores memory.pages memory.tables page
+    pub serves : Serves (cache_in memory hart) access page
 
   -- nothing but bytes in frames changes; and pages, tables and caches go together if they did
   pub record KeepsReady (held : S → List ℕ) (honest : Type 0) (hart : ℕ) (old new : PagedValue S) : Type 0 where

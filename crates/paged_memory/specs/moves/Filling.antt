@@ -29,6 +29,11 @@ module _ {S : Type 0} where
   abbrev pub IsUnchanged : PageValue S → Type 0
   IsUnchanged page = IfResident page.place (λ frame slot. IsFalse (is_unbacked slot))
 
+  -- how many failures of its device the slot that a page has at hand tells of, if the page is mapped
+  abbrev pub failures_of : (S → ℕ) → Option (PageValue S) → Option ℕ
+  failures_of failures None = None
+  failures_of failures (Some page) = failures_at failures page.place
+
   -- where a page is that gives up its frame unchanged
   abbrev pub dropped : Keeping S → Option (Place S)
   dropped NoSlot = Some Fresh

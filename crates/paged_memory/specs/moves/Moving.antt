@@ -14,7 +14,7 @@ use Rattle.sv32_table.specs.EntryAt.{entry_at, ChangesEntry, SameTables, AddsTab
 use Rattle.tlb_core.specs.Cache.{doomed}
 use Rattle.paged_memory.specs.Calls.{ChangesBy, Leaves, RefusesLeave}
 use Rattle.paged_memory.specs.cleaning.Copies.{LeavesCopies}
-use Rattle.paged_memory.specs.moves.Filling.{BroughtIn, RefusesPageIn}
+use Rattle.paged_memory.specs.moves.Filling.{BroughtIn, RefusesPageIn, failures_of}
 use Rattle.paged_memory.specs.moves.GivingBack.{GivesNothing, GivesOne, LiesBehind, SavesOne}
 use Rattle.paged_memory.specs.moves.Leaving.{CollectsAt, ChangesSaved, Frees, RefusesSaved, IsOut, BringsBack}
 use Rattle.paged_memory.specs.Paged.{PagedValue, page_at, memory_of}
@@ -230,6 +230,10 @@ module _ {S : Type 0} (held : S → List ℕ) (honest : Type 0) where
 
   abbrev pub DoesNotShow : (S → ℕ) → ℕ → PagedValue S → PagedValue S → PeekFault → Type 0
   DoesNotShow failures address old new fault = RefusesPeek held honest failures old.pages new.pages (page_number address) fault
+
+-- the slot of the page of a number tells of no failure more
+abbrev pub SameFailures : {S : Type 0} → (S → ℕ) → ℕ → PagedValue S → PagedValue S → Type 0
+SameFailures failures vpn old new = failures_of failures (page_at new.pages vpn) ≡ failures_of failures (page_at old.pages vpn)
 
 -- pages give back what they have
 

@@ -1,7 +1,7 @@
 -- Decoded instructions one after another are a plain run.
 use Rattle.std.proofs.Common.{◌≡◌, ◌-◌, Some, ap, ◌∙◌, sym}
 use Rattle.rv_exec.specs.Registers.{with_pc}
-use Rattle.rv_exec.specs.RegistersLaws.{own_pc}
+use Rattle.rv_exec.proofs.RegistersLaws.{own_pc}
 use Rattle.flat_machine.specs.PlainRun.{plain_run}
 use Rattle.flat_machine.proofs.PlainCode.{iterated}
 use Rattle.flat_machine.proofs.plain_run.run_part.Goals as goal

@@ -2,7 +2,7 @@
 use Rattle.std.proofs.Common.{◌≡◌, ◌-◌, Some, ap, ◌∙◌, sym, subst}
 use Rattle.rv_exec.specs.Line.{line}
 use Rattle.rv_exec.specs.Registers.{with_pc}
-use Rattle.rv_exec.specs.RegistersLaws.{own_pc}
+use Rattle.rv_exec.proofs.RegistersLaws.{own_pc}
 use Rattle.flat_machine.specs.PlainRun.{plain_run, StopsAs}
 use Rattle.flat_machine.proofs.plain_run.run_words.Goals as goal
 

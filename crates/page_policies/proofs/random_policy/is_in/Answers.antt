@@ -1,5 +1,5 @@
 use Rattle.std.proofs.Common.{◌∙◌}
-use Rattle.page_policies.specs.RandomLaws.{any_holds}
+use Rattle.page_policies.proofs.RandomLaws.{any_holds}
 use Rattle.page_policies.proofs.random_policy.is_in.Goals as goal
 
 pub returns : goal.returns

@@ -1,7 +1,7 @@
 use Rattle.std.proofs.Common.{◌≡◌, ◌<◌, ◌+◌, length, List, ◌++◌, ◌∷◌, [], true, arith, ap, ◌∙◌}
 use Rattle.clock_policy.specs.declared.entry.EntryKind.TheVariants.{Hot}
-use Rattle.page_policies.specs.SecondChance.{Slot}
-use Rattle.page_policies.specs.SlotLaws.{slots_of, slots-append, in_nowhere, made_few, length_more}
+use Rattle.page_policies.specs.SecondChance.{Slot, slots_of}
+use Rattle.page_policies.proofs.SlotLaws.{slots-append, in_nowhere, made_few, length_more}
 use Rattle.page_policies.proofs.second_chance.bring_in.Goals as goal
 
 pub append-requires-clause-new : goal.append-requires-clause-new

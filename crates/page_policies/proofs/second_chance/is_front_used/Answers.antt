@@ -3,8 +3,8 @@ use Rattle.clock_policy.specs.ClockPro.{is_hot}
 use Rattle.page_ring.specs.Linked.{Cell, first_at, last_at}
 use Rattle.page_ring.specs.Chain.{Rotates, same}
 use Rattle.page_ring.specs.declared.links.Node.{Node}
-use Rattle.page_policies.specs.SecondChance.{front_used}
-use Rattle.page_policies.specs.SlotLaws.{slots_of, FrontAt, front_at}
+use Rattle.page_policies.specs.SecondChance.{front_used, slots_of}
+use Rattle.page_policies.proofs.SlotLaws.{FrontAt, front_at}
 use Rattle.page_policies.proofs.second_chance.is_front_used.Goals as goal
 
 pub node-requires : goal.node-requires

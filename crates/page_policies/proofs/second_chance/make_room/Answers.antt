@@ -1,4 +1,5 @@
-use Rattle.page_policies.specs.SlotLaws.{slots_of, room_full, room_free}
+use Rattle.page_policies.specs.SecondChance.{slots_of}
+use Rattle.page_policies.proofs.SlotLaws.{room_full, room_free}
 use Rattle.page_policies.proofs.second_chance.make_room.Goals as goal
 
 pub returns-then-frames-len-clause-slots : goal.returns-then-frames-len-clause-slots

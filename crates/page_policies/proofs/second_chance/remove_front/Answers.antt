@@ -1,6 +1,7 @@
 use Rattle.std.proofs.Common.{◌≡◌, ◌≤◌, length, drop, List, [], arith, sym, ap, ◌∙◌}
 use Rattle.page_ring.specs.Linked.{Cell}
-use Rattle.page_policies.specs.SlotLaws.{slots_of, FrontAt, front_at}
+use Rattle.page_policies.specs.SecondChance.{slots_of}
+use Rattle.page_policies.proofs.SlotLaws.{FrontAt, front_at}
 use Rattle.page_policies.proofs.second_chance.remove_front.Goals as goal
 
 pub remove-requires : goal.remove-requires

@@ -1,5 +1,6 @@
 use Rattle.std.proofs.Common.{sym, ◌∙◌}
-use Rattle.page_policies.specs.SlotLaws.{slots_of, turn_more}
+use Rattle.page_policies.specs.SecondChance.{slots_of}
+use Rattle.page_policies.proofs.SlotLaws.{turn_more}
 use Rattle.page_policies.proofs.second_chance.remove_one.Goals as goal
 
 pub loop-turn-preserved : goal.loop-turn-preserved

@@ -1,6 +1,5 @@
 use Rattle.std.proofs.Common.{◌≡◌, ◌-◌}
-use Rattle.page_policies.specs.SecondChance.{one_gone}
-use Rattle.page_policies.specs.SlotLaws.{slots_of}
+use Rattle.page_policies.specs.SecondChance.{one_gone, slots_of}
 use Rattle.page_policies.proofs.second_chance.remove_one.Given as goal
 
 abbrev pub invariant-loop-turn : goal.invariant-loop-turn

@@ -2,7 +2,8 @@ use Rattle.std.proofs.Common.{length, sym, ap, ◌∙◌}
 use Rattle.std.specs.Option.{is_some}
 use Rattle.clock_policy.specs.declared.entry.EntryKind.TheVariants.{Hot}
 use Rattle.page_ring.specs.Chain.{of_kind}
-use Rattle.page_policies.specs.SlotLaws.{slots_of, in_slots_at, Touches, touches, found_at, length_marked}
+use Rattle.page_policies.specs.SecondChance.{slots_of}
+use Rattle.page_policies.proofs.SlotLaws.{in_slots_at, Touches, touches, found_at, length_marked}
 use Rattle.page_policies.proofs.second_chance.touch.Goals as goal
 
 pub mark-requires : goal.mark-requires

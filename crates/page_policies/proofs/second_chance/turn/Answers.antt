@@ -2,8 +2,8 @@ use Rattle.std.proofs.Common.{◌≡◌, ◌+◌, length, List, [], ◌∷◌, �
 use Rattle.clock_policy.specs.declared.entry.EntryKind.TheVariants.{Cold}
 use Rattle.page_ring.specs.Linked.{Cell}
 use Rattle.page_ring.specs.Chain.{of_kind}
-use Rattle.page_policies.specs.SecondChance.{turned}
-use Rattle.page_policies.specs.SlotLaws.{slots_of, slots-append, FrontAt, front_at}
+use Rattle.page_policies.specs.SecondChance.{turned, slots_of}
+use Rattle.page_policies.proofs.SlotLaws.{slots-append, FrontAt, front_at}
 use Rattle.page_policies.proofs.second_chance.turn.Goals as goal
 
 pub mark-requires : goal.mark-requires

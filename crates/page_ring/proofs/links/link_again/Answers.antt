@@ -1,5 +1,5 @@
 -- the node stands before the first of a circle
-use Rattle.page_ring.specs.LinkLaws.{linked_again}
+use Rattle.page_ring.proofs.LinkLaws.{linked_again}
 use Rattle.page_ring.proofs.links.link_again.Goals as goal
 
 pub returns-clause-circle : goal.returns-clause-circle

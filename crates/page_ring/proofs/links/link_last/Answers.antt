@@ -1,5 +1,5 @@
 -- the new node stands before the first of a circle
-use Rattle.page_ring.specs.LinkLaws.{linked_at}
+use Rattle.page_ring.proofs.LinkLaws.{linked_at}
 use Rattle.page_ring.proofs.links.link_last.Goals as goal
 
 pub returns-clause-circle : goal.returns-clause-circle

@@ -1,6 +1,6 @@
 -- the node and its neighbours are a circle's
 use Rattle.std.specs.Prelude.{refl}
-use Rattle.page_ring.specs.LinkLaws.{unlinked_at}
+use Rattle.page_ring.proofs.LinkLaws.{unlinked_at}
 use Rattle.page_ring.proofs.links.pass_over.Goals as goal
 
 pub returns-clause-circle : goal.returns-clause-circle

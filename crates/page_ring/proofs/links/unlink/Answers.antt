@@ -1,5 +1,5 @@
 -- the node and its neighbours are a circle's
-use Rattle.page_ring.specs.LinkLaws.{unlinked_at}
+use Rattle.page_ring.proofs.LinkLaws.{unlinked_at}
 use Rattle.page_ring.proofs.links.unlink.Goals as goal
 
 pub returns-clause-circle : goal.returns-clause-circle

@@ -7,7 +7,7 @@ use Rattle.paged_memory.proofs.access.walk.Goals as goal
 done : (g : Over) (c : goal.After-fill g) → Walked g.S.SwapSlot.content g.S.SwapSlot.honest c.args.pages.now c.args.tables.now c.walk-walked.new.self c.args.caches.now c.fill.new.self c.args.hart c.args.access c.args.page c.in_ok-place.field-0.place
 done g c =
     let entries = subst (λ n. ChangesEntry c.args.tables.now c.walk-walked.new.self n (walked_entry (entry_at c.args.tables.now n) c.args.access)) (sym c.requires.page) c.walk-walked.ensures.entries in
-    walk_done c.walk-walked.new.self c.fill.new.self c.args.page c.args.hart c.in_ok-place.field-0.place c.in_ok-place.field-0.frame c.in_ok-place.field-0.rights c.is_dirty_after-dirty.result c.args.access c.requires.small c.requires.hart c.requires.holds c.in_ok-place.ensures.found entries c.walk-walked.ensures.tables c.is_dirty_after-dirty.ensures c.fill.ensures.apart c.fill.ensures.filled
+    walk_done c.walk-walked.new.self c.fill.new.self c.args.page c.args.hart c.in_ok-place.field-0.place c.in_ok-place.field-0.frame c.in_ok-place.field-0.rights c.is_dirty_after-dirty.result c.args.access c.requires.small c.requires.hart c.requires.holds c.in_ok-place.ensures.found entries c.walk-walked.ensures.tables c.is_dirty_after-dirty.ensures c.fill.ensures.apart c.requires.missed c.fill.ensures.filled
 
 pub returns-clause-holds : goal.returns-clause-holds
 returns-clause-holds g c = (done g c).holds

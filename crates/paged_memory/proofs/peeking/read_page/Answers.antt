@@ -1,7 +1,7 @@
 use Rattle.std.proofs.Common.{◌≡◌, refl, length, Some, option_map, sym, ap, ◌∙◌, subst}
 use Rattle.page_memory.specs.Entries.{place_of}
 use Rattle.paged_memory.specs.Peeking.{ShowsBytes, LeavesPage}
-use Rattle.paged_memory.proofs.move_laws.PagedLaws.{page_at-place, page_at-nowhere}
+use Rattle.paged_memory.proofs.move_laws.PagedLaws.{page_at-place, page_at-nowhere, failures_placed}
 use Rattle.paged_memory.proofs.PeekingLaws.{page_left, page_failed}
 use Rattle.paged_memory.proofs.peeking.read_page.Goals as goal
 
@@ -17,6 +17,11 @@ returns-in-Ok-clause-bytes g c =
     let at : place_of c.args.vpn c.args.pages.now ≡ Some c.in-Some.place = sym c.place.ensures.place ∙ c.in-Some.is in
     subst (λ o. ShowsBytes g.S.SwapSlot.content g.S.SwapSlot.honest o c.args.offset (length c.args.bytes.now) c.read.new.bytes) (sym (page_at-place c.args.pages.now c.args.vpn c.in-Some.place c.at_mut.result.now at c.at_mut.ensures.value))
     (c.in-Ok.ensures.mapped, c.in-Ok.ensures.bytes)
+
+pub returns-in-Ok-clause-passed : goal.returns-in-Ok-clause-passed
+returns-in-Ok-clause-passed g c =
+    let at : place_of c.args.vpn c.args.pages.now ≡ Some c.in-Some.place = sym c.place.ensures.place ∙ c.in-Some.is in
+    failures_placed g.S.SwapSlot.failures c.args.pages.now c.args.vpn c.in-Some.place c.at_mut.result.now c.read.new.self at c.at_mut.ensures.value c.in-Ok.ensures.passed
 
 pub returns-in-Ok-clause-left : goal.returns-in-Ok-clause-left
 returns-in-Ok-clause-left g c =

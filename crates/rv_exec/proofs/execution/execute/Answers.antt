@@ -6,7 +6,7 @@ use Rattle.page_memory.specs.Words.{page_number}
 use Rattle.rv_exec.specs.Bounds.{Bounds}
 use Rattle.rv_exec.specs.Leaves.{LeavesPages}
 use Rattle.rv_exec.specs.Registers.{Registers, with_pc}
-use Rattle.rv_exec.specs.RegistersLaws.{own_pc}
+use Rattle.rv_exec.proofs.RegistersLaws.{own_pc}
 use Rattle.rv_exec.specs.Uses.{pages_used, pages_stored}
 use Rattle.rv_exec.proofs.execution.execute.Goals as goal
 

@@ -1,7 +1,7 @@
 -- Decoded instructions one after another are the hart's.
 use Rattle.std.proofs.Common.{◌≡◌, ◌-◌, sym, ap, ◌∙◌, subst}
 use Rattle.rv_exec.specs.Registers.{with_pc}
-use Rattle.rv_exec.specs.RegistersLaws.{own_pc}
+use Rattle.rv_exec.proofs.RegistersLaws.{own_pc}
 use Rattle.space_core.specs.HartLoop.{RunsEach}
 use Rattle.space_core.proofs.DecodedRuns.{decoded_each}
 use Rattle.space_core.proofs.hart_loop.run_part.Goals as goal

@@ -1,7 +1,7 @@
 -- The pc that was taken out is the registers' own, and the one that is written back is the last.
 use Rattle.std.proofs.Common.{◌≡◌, ◌-◌, sym, ap, ◌∙◌, subst}
 use Rattle.rv_exec.specs.Registers.{with_pc}
-use Rattle.rv_exec.specs.RegistersLaws.{own_pc}
+use Rattle.rv_exec.proofs.RegistersLaws.{own_pc}
 use Rattle.space_core.specs.HartLoop.{RunsUntil}
 use Rattle.space_core.proofs.hart_loop.run_words.Goals as goal
 

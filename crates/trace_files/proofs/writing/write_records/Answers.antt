@@ -1,6 +1,6 @@
 use Rattle.std.proofs.Common.{◌≡◌, length, arith, ap, ◌∙◌, slice_index_or, refl}
 use Rattle.clock_policy.specs.declared.key.Key.{Key}
-use Rattle.whole_strings.specs.PlaceStepLaws.{length_uses}
+use Rattle.whole_strings.proofs.PlaceStepLaws.{length_uses}
 use Rattle.trace_files.proofs.WrittenLaws.{writes_on}
 use Rattle.trace_files.proofs.writing.write_records.Goals as goal
 

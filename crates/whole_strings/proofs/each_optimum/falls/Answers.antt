@@ -1,5 +1,5 @@
 use Rattle.std.proofs.Common.{◌∙◌, ◌-◌, ap}
-use Rattle.whole_strings.specs.OptimumCurveLaws.{falling_on}
+use Rattle.whole_strings.proofs.OptimumCurveLaws.{falling_on}
 use Rattle.whole_strings.proofs.each_optimum.falls.Goals as goal
 
 pub depths-preserved : goal.depths-preserved

@@ -1,4 +1,4 @@
-use Rattle.whole_strings.specs.OptimumCurveLaws.{Falling}
+use Rattle.whole_strings.proofs.OptimumCurveLaws.{Falling}
 use Rattle.whole_strings.proofs.each_optimum.falls.Given as goal
 
 abbrev pub invariant-depths : goal.invariant-depths

@@ -1,6 +1,6 @@
 use Rattle.std.proofs.Common.{◌≤◌, ◌+◌, ◌-◌, take, drop, length, arith}
 use Rattle.whole_strings.specs.LastPlaces.{total}
-use Rattle.whole_strings.specs.PlaceSumLaws.{total_cut}
+use Rattle.whole_strings.proofs.PlaceSumLaws.{total_cut}
 use Rattle.whole_strings.proofs.last_places.sum_in_block.Goals as goal
 
 pub sum_of-requires : goal.sum_of-requires

@@ -2,8 +2,8 @@ use Rattle.std.proofs.Common.{◌<◌, ◌^◌, ◌∙◌, refl, rules, arith, s
 use Rattle.std.specs.HashMap.{get}
 use Rattle.clock_policy.specs.declared.key.Key.{Key}
 use Rattle.page_policies.specs.Strings.{is_page}
-use Rattle.whole_strings.specs.LruDepthLaws.{same_default}
-use Rattle.whole_strings.specs.LastPlaceLaws.{places_open, places_along, places_end, places_small, may_leave, total_few, left_few}
+use Rattle.whole_strings.proofs.LruDepthLaws.{same_default}
+use Rattle.whole_strings.proofs.LastPlaceLaws.{places_open, places_along, places_end, places_small, may_leave, total_few, left_few}
 use Rattle.whole_strings.proofs.lru_depths.count_hits.Goals as goal
 
 pub references-init : goal.references-init

@@ -1,5 +1,5 @@
 use Rattle.std.proofs.Common.{◌≡◌, ◌++◌, take, drop, length}
-use Rattle.whole_strings.specs.LruDepthLaws.{tails}
+use Rattle.whole_strings.specs.LruDepths.{tails}
 use Rattle.whole_strings.proofs.lru_depths.fall.Given as goal
 
 abbrev pub invariant-depths : goal.invariant-depths

@@ -1,4 +1,4 @@
-use Rattle.whole_strings.specs.LruDepthLaws.{noted_set}
+use Rattle.whole_strings.proofs.LruDepthLaws.{noted_set}
 use Rattle.whole_strings.proofs.lru_depths.note_hit.Goals as goal
 
 pub returns : goal.returns

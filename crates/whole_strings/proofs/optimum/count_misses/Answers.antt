@@ -1,5 +1,5 @@
 use Rattle.std.proofs.Common.{◌≡◌, ℕ, ◌+◌, ◌≤◌, ◌∙◌, Bool, slice_index_or, true, false, cond, length, arith, sym, ap, refl}
-use Rattle.whole_strings.specs.PlaceStepLaws.{served_first, served_step, served_last, length_uses}
+use Rattle.whole_strings.proofs.PlaceStepLaws.{served_first, served_step, served_last, length_uses}
 use Rattle.whole_strings.proofs.optimum.count_misses.Goals as goal
 use Rattle.whole_strings.proofs.optimum.count_misses.Goals.{then-not-branch, else-not-branch}
 

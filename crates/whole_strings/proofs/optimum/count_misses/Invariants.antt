@@ -1,7 +1,7 @@
 use Rattle.std.proofs.Common.{◌≡◌, ◌≤◌, List}
 use Rattle.clock_policy.specs.declared.key.Key.{Key}
 use Rattle.page_policies.specs.NextUses.{next_uses}
-use Rattle.whole_strings.specs.PlaceStepLaws.{Served}
+use Rattle.whole_strings.proofs.PlaceStepLaws.{Served}
 use Rattle.whole_strings.proofs.optimum.count_misses.Given as goal
 
 abbrev pub invariant-loop-at : goal.invariant-loop-at

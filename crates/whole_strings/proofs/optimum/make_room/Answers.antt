@@ -1,5 +1,5 @@
 use Rattle.std.proofs.Common.{arith}
-use Rattle.whole_strings.specs.NextPlaceLaws.{roomed_popped, roomed_free}
+use Rattle.whole_strings.proofs.NextPlaceLaws.{roomed_popped, roomed_free}
 use Rattle.whole_strings.proofs.optimum.make_room.Goals as goal
 
 pub returns-then-frames-len : goal.returns-then-frames-len

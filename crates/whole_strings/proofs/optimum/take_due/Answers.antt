@@ -1,6 +1,6 @@
 use Rattle.std.proofs.Common.{◌≡◌, ◌∙◌, sym, subst, refl, true, false}
 use Rattle.whole_strings.specs.NextPlaces.{Due}
-use Rattle.whole_strings.specs.NextPlaceLaws.{due_popped, due_not, under_empty}
+use Rattle.whole_strings.proofs.NextPlaceLaws.{due_popped, due_not, under_empty}
 use Rattle.whole_strings.proofs.optimum.take_due.Goals as goal
 use Rattle.whole_strings.proofs.optimum.take_due.Goals.{in-Some, in-None}
 

@@ -1,6 +1,6 @@
 -- One window after another.
 use Rattle.std.proofs.Common.{◌∙◌, ◌+◌, ◌<◌, ◌^◌, ap, length, min, arith, rules}
-use Rattle.whole_strings.specs.WorkingSetLaws.{counted_curve, counted_on, counted_opens}
+use Rattle.whole_strings.proofs.WorkingSetLaws.{counted_curve, counted_on, counted_opens}
 use Rattle.whole_strings.proofs.working_sets.add_up.Goals as goal
 
 pub windows-init : goal.windows-init

@@ -1,6 +1,7 @@
 use Rattle.std.proofs.Common.{List}
 use Rattle.clock_policy.specs.declared.key.Key.{Key}
-use Rattle.whole_strings.specs.WorkingSetLaws.{Counted, IsAhead, IsReturning}
+use Rattle.whole_strings.proofs.WorkingSetLaws.{Counted}
+use Rattle.whole_strings.specs.WorkingSets.{IsAhead, IsReturning}
 use Rattle.whole_strings.proofs.working_sets.add_up.Given as goal
 
 abbrev pub invariant-windows : goal.invariant-windows

@@ -1,7 +1,8 @@
 -- One next use after another.
 use Rattle.std.proofs.Common.{◌≡◌, ◌∙◌, ◌<◌, ◌^◌, ℕ, List, length, slice_index_or, arith, rules, ap, refl, sym, subst}
-use Rattle.whole_strings.specs.LruDepthLaws.{come_back, few_at, length_noted, noted}
-use Rattle.whole_strings.specs.WorkingSetLaws.{below_uses, inside_at, tally_ahead, tally_below, tally_opens}
+use Rattle.whole_strings.proofs.LruDepthLaws.{come_back, few_at, length_noted}
+use Rattle.whole_strings.specs.LruDepths.{noted}
+use Rattle.whole_strings.proofs.WorkingSetLaws.{below_uses, inside_at, tally_ahead, tally_below, tally_opens}
 use Rattle.whole_strings.proofs.working_sets.count_ahead.Goals as goal
 
 pub uses-init : goal.uses-init

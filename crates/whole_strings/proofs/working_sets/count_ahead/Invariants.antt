@@ -1,4 +1,4 @@
-use Rattle.whole_strings.specs.WorkingSetLaws.{Tallies, below_uses}
+use Rattle.whole_strings.proofs.WorkingSetLaws.{Tallies, below_uses}
 use Rattle.whole_strings.proofs.working_sets.count_ahead.Given as goal
 
 abbrev pub invariant-uses : goal.invariant-uses

@@ -1,7 +1,8 @@
 -- One next use after another, of pages that are used again.
 use Rattle.std.proofs.Common.{◌≡◌, ◌∙◌, ◌<◌, ◌^◌, ◌-◌, ℕ, List, cond, nat_lt, length, slice_index_or, arith, rules, ap, refl, sym, subst}
-use Rattle.whole_strings.specs.LruDepthLaws.{come_back, few_at, noted}
-use Rattle.whole_strings.specs.WorkingSetLaws.{again_uses, inside_at, size_if, tally_again, tally_opens, tally_returning}
+use Rattle.whole_strings.proofs.LruDepthLaws.{come_back, few_at}
+use Rattle.whole_strings.specs.LruDepths.{noted}
+use Rattle.whole_strings.proofs.WorkingSetLaws.{again_uses, inside_at, size_if, tally_again, tally_opens, tally_returning}
 use Rattle.whole_strings.proofs.working_sets.count_returning.Goals as goal
 
 pub uses-init : goal.uses-init

@@ -1,4 +1,4 @@
-use Rattle.whole_strings.specs.WorkingSetLaws.{Tallies, again_uses}
+use Rattle.whole_strings.proofs.WorkingSetLaws.{Tallies, again_uses}
 use Rattle.whole_strings.proofs.working_sets.count_returning.Given as goal
 
 abbrev pub invariant-uses : goal.invariant-uses

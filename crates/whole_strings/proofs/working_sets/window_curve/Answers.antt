@@ -1,6 +1,7 @@
 -- The next uses of a string are inside it.
 use Rattle.std.proofs.Common.{◌∙◌, subst, sym}
-use Rattle.whole_strings.specs.WorkingSetLaws.{Inside, inside_uses}
+use Rattle.whole_strings.specs.WorkingSets.{Inside}
+use Rattle.whole_strings.proofs.WorkingSetLaws.{inside_uses}
 use Rattle.whole_strings.proofs.working_sets.window_curve.Goals as goal
 
 pub count_ahead-requires : goal.count_ahead-requires

@@ -1,6 +1,6 @@
 use Rattle.std.proofs.Common.{◌≡◌, ◌≢◌}
 use Rattle.clock_policy.specs.declared.refusal.Refusal.TheVariants.{Full, AlreadyResident, NoQuestion, NotThere, NoMemory}
-use Rattle.younger_policies.specs.PlayLaws.{refused_by, refused_moved}
+use Rattle.younger_policies.proofs.PlayLaws.{refused_by, refused_moved}
 use Rattle.younger_policies.proofs.clock_pro.enter.Goals as goal
 
 pub returns-in-Err-Full-clause-moved : goal.returns-in-Err-Full-clause-moved

@@ -1,7 +1,7 @@
 use Rattle.std.proofs.Common.{◌≡◌, ◌∙◌, ℕ, ◌-◌, ◌+◌, false, not, ap, arith, sym}
 use Rattle.clock_policy.specs.ClockPro.{ClockState, admitted}
-use Rattle.younger_policies.specs.ClockProPlay.{Play, is_full_refusal, placed}
-use Rattle.younger_policies.specs.PlayLaws.{play_of, placed_at_once, placed_more, placed_never, refused_same}
+use Rattle.younger_policies.specs.ClockProPlay.{Play, is_full_refusal, placed, play_of}
+use Rattle.younger_policies.proofs.PlayLaws.{placed_at_once, placed_more, placed_never, refused_same}
 use Rattle.younger_policies.proofs.clock_pro.place.Goals as goal
 
 pub turns-init : goal.turns-init

@@ -1,7 +1,6 @@
 use Rattle.std.proofs.Common.{◌≡◌, ◌-◌, true}
 use Rattle.clock_policy.specs.ClockPro.{admitted}
-use Rattle.younger_policies.specs.ClockProPlay.{is_full_refusal, placed}
-use Rattle.younger_policies.specs.PlayLaws.{play_of}
+use Rattle.younger_policies.specs.ClockProPlay.{is_full_refusal, placed, play_of}
 use Rattle.younger_policies.proofs.clock_pro.place.Given as goal
 
 -- No answer made room, so that the page would still be refused.

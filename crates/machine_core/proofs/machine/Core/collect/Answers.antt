@@ -1,16 +1,11 @@
 -- The page is leaving, so that the list has room for it.
 use Rattle.std.proofs.Common.{sym, ap, ◌∙◌, inr, arith}
 use Rattle.machine_core.specs.CollectEvent.{collect_refusal}
-use Rattle.machine_core.proofs.Collects.{own, room, collected_back, collected_size, collected_told}
+use Rattle.machine_core.proofs.Collects.{room, collected_back, collected_size, collected_told}
 use Rattle.machine_core.proofs.machine.Core.collect.Goals as goal
 
-pub keep-requires-clause-own : goal.keep-requires-clause-own
-keep-requires-clause-own g c =
-    own g.S.SwapSlot.content g.S.SwapSlot.honest c.self.inside.pager c.collect_at-looked.new.pager c.self.inside.slots c.collect_at-looked.new.slots c.self.inside.jobs.items c.self.inside.copies.items c.self.inside.processes.items c.as_mut_slice.result.now c.collect_at-looked.new.processes c.self.inside.processes.len c.args.key c.collect_at-looked.result
-    c.self.invariant.machine (ap (collect_refusal c.args.key) (sym c.as_slice.ensures.value) ∙ sym c.collect_refusal-refusal.ensures ∙ c.in_default.is) (omega (arith, c.self.inside.processes.ok.0)) c.as_mut_slice.ensures.value c.collect_at-looked.ensures
-
-pub keep-requires-clause-room : goal.keep-requires-clause-room
-keep-requires-clause-room g c =
+pub keep-requires : goal.keep-requires
+keep-requires g c =
     let fits = room g.S.SwapSlot.content g.S.SwapSlot.honest c.self.inside.pager c.collect_at-looked.new.pager c.self.inside.slots c.collect_at-looked.new.slots c.self.inside.jobs.items c.self.inside.copies.items c.self.inside.processes.items c.as_mut_slice.result.now c.collect_at-looked.new.processes c.self.inside.processes.len c.args.key c.collect_at-looked.result
     c.self.invariant.machine (ap (collect_refusal c.args.key) (sym c.as_slice.ensures.value) ∙ sym c.collect_refusal-refusal.ensures ∙ c.in_default.is) (omega (arith, c.self.inside.processes.ok.0)) c.as_mut_slice.ensures.value c.collect_at-looked.ensures in
     let roomy = c.self.invariant.roomy in

@@ -1,7 +1,7 @@
 use Rattle.std.proofs.Common.{◌≡◌, ◌+◌, [], take, sym, subst, arith}
 use Rattle.std.proofs.lemmas.List.{take_all}
 use Rattle.machine_core.specs.Applying.{Runs}
-use Rattle.machine_core.specs.ApplyingLaws.{runs_none, runs_next}
+use Rattle.machine_core.proofs.ApplyingLaws.{runs_none, runs_next}
 use Rattle.machine_core.proofs.InvisibleLaws.{run_invisible}
 use Rattle.machine_core.proofs.machine.Core.run.Goals as goal
 

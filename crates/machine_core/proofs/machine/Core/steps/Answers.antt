@@ -1,7 +1,7 @@
 -- The slices are steps, one after another.
 use Rattle.std.proofs.Common.{◌<◌, length, inl, option_map, refl, sym, ap, ◌∙◌, arith}
 use Rattle.space_core.specs.declared.progress.Slice.{Slice}
-use Rattle.machine_core.specs.ApplyingLaws.{runs_none, runs_one}
+use Rattle.machine_core.proofs.ApplyingLaws.{runs_none, runs_one}
 use Rattle.machine_core.specs.Machine.{CoreValue}
 use Rattle.machine_core.specs.MachineRun.{hart_refusal, hart_reason}
 use Rattle.machine_core.specs.declared.event.Event.TheVariants.{Step}

@@ -1,5 +1,5 @@
 use Rattle.std.proofs.Common.{sym, ◌∙◌}
-use Rattle.page_policies.specs.QueueLaws.{fifo_hit, fifo_miss, holds_found}
+use Rattle.page_policies.proofs.QueueLaws.{fifo_hit, fifo_miss, holds_found}
 use Rattle.page_policies.proofs.fifo_policy.FifoPolicy.refer.Goals as goal
 
 pub returns-then-contains-clause-outcome : goal.returns-then-contains-clause-outcome

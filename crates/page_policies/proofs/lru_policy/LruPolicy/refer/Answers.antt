@@ -2,7 +2,7 @@ use Rattle.std.proofs.Common.{◌≡◌, sym, ap, ◌∙◌}
 use Rattle.clock_policy.specs.declared.key.Key.{Key}
 use Rattle.lru.specs.LruCache.{LruCache, lru_cache, put_entries}
 use Rattle.page_policies.specs.Strings.{is_page}
-use Rattle.page_policies.specs.QueueLaws.{lru_hit, lru_miss, not_promoted, holds_found}
+use Rattle.page_policies.proofs.QueueLaws.{lru_hit, lru_miss, not_promoted, holds_found}
 use Rattle.page_policies.proofs.lru_policy.LruPolicy.refer.Goals as goal
 
 pub returns-then-promote-clause-outcome : goal.returns-then-promote-clause-outcome

@@ -1,6 +1,6 @@
 use Rattle.std.proofs.Common.{sym, ap, ◌∙◌}
 use Rattle.page_policies.specs.Strings.{holds}
-use Rattle.page_policies.specs.QueueLaws.{holds_found}
+use Rattle.page_policies.proofs.QueueLaws.{holds_found}
 use Rattle.page_policies.proofs.queue.Queue.contains.Goals as goal
 
 pub returns : goal.returns

@@ -4,7 +4,7 @@ use Rattle.std.specs.Option.{is_some}
 use Rattle.clock_policy.specs.declared.key.Key.{Key}
 use Rattle.lru.specs.LruCache.{LruCache}
 use Rattle.page_policies.specs.Strings.{holds, without}
-use Rattle.page_policies.specs.QueueLaws.{holds_found, keys_removed}
+use Rattle.page_policies.proofs.QueueLaws.{holds_found, keys_removed}
 use Rattle.page_policies.proofs.queue.Queue.remove.Goals as goal
 
 pub returns-clause-found : goal.returns-clause-found

@@ -4,7 +4,7 @@ use Rattle.clock_policy.specs.declared.key.Key.{Key}
 use Rattle.lru.specs.LruCache.{LruCache}
 use Rattle.page_policies.specs.Strings.{holds}
 use Rattle.page_policies.specs.Ordered.{to_front}
-use Rattle.page_policies.specs.QueueLaws.{holds_found}
+use Rattle.page_policies.proofs.QueueLaws.{holds_found}
 use Rattle.page_policies.proofs.OrderedLaws.{touched_keys}
 use Rattle.page_policies.proofs.queue.Queue.touch.Goals as goal
 

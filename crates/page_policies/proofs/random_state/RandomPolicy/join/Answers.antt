@@ -1,5 +1,5 @@
 use Rattle.std.proofs.Common.{◌∙◌}
-use Rattle.page_policies.specs.RandomLaws.{inserted_new}
+use Rattle.page_policies.proofs.RandomLaws.{inserted_new}
 use Rattle.page_policies.proofs.random_state.RandomPolicy.join.Goals as goal
 
 pub returns-in-Ok-clause-pages : goal.returns-in-Ok-clause-pages

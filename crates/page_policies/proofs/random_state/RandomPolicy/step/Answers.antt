@@ -1,7 +1,7 @@
 use Rattle.std.proofs.Common.{◌∙◌, ap, sym}
 use Rattle.page_policies.specs.Strings.{holds}
-use Rattle.page_policies.specs.Random.{RandomState}
-use Rattle.page_policies.specs.RandomLaws.{pages_of, out_room}
+use Rattle.page_policies.specs.Random.{RandomState, pages_of}
+use Rattle.page_policies.proofs.RandomLaws.{out_room}
 use Rattle.page_policies.proofs.random_state.RandomPolicy.step.Goals as goal
 
 pub join-requires : goal.join-requires

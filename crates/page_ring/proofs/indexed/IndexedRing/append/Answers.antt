@@ -4,7 +4,8 @@ use Rattle.std.specs.Result.{is_err}
 use Rattle.std.proofs.Common.{sym, ◌∙◌, subst}
 use Rattle.page_ring.specs.Linked.{Cell}
 use Rattle.page_ring.specs.Chain.{Chain}
-use Rattle.page_ring.specs.Index.{FindsNodes, at_of, node_of, index_append, index_lacking}
+use Rattle.page_ring.specs.Index.{FindsNodes, at_of, node_of}
+use Rattle.page_ring.proofs.IndexLaws.{index_append, index_lacking}
 use Rattle.page_ring.proofs.indexed.IndexedRing.append.Goals as goal
 
 took : {A E P : Type 0} (r : Result A E) → is_err r ≡ false → OnOk r P → P

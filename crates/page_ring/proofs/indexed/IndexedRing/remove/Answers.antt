@@ -3,9 +3,11 @@ use Rattle.std.specs.Prelude.{◌≡◌, ◌++◌, true, List, cond, None}
 use Rattle.std.proofs.Common.{sym, ap, ◌∙◌, subst}
 use Rattle.page_ring.specs.declared.links.Node.{Node}
 use Rattle.page_ring.specs.Linked.{Cell, is_at, first_at, last_at}
-use Rattle.page_ring.specs.Chain.{Chain, Split, split, rotates_split}
+use Rattle.page_ring.specs.Chain.{Chain}
+use Rattle.page_ring.proofs.ChainLaws.{Split, split, rotates_split}
 use Rattle.page_ring.specs.Slots.{same_key}
-use Rattle.page_ring.specs.Index.{FindsNodes, node_of, index_remove}
+use Rattle.page_ring.specs.Index.{FindsNodes, node_of}
+use Rattle.page_ring.proofs.IndexLaws.{index_remove}
 use Rattle.page_ring.proofs.indexed.IndexedRing.remove.Goals as goal
 
 pub invariant_of-self : goal.invariant_of-self

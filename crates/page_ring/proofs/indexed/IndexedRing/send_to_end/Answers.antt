@@ -2,8 +2,10 @@
 use Rattle.std.specs.Prelude.{◌≡◌, true, List}
 use Rattle.std.proofs.Common.{sym, subst}
 use Rattle.page_ring.specs.Linked.{Cell, is_at}
-use Rattle.page_ring.specs.Chain.{Chain, Split, split}
-use Rattle.page_ring.specs.Index.{FindsNodes, node_of, index_send}
+use Rattle.page_ring.specs.Chain.{Chain}
+use Rattle.page_ring.proofs.ChainLaws.{Split, split}
+use Rattle.page_ring.specs.Index.{FindsNodes, node_of}
+use Rattle.page_ring.proofs.IndexLaws.{index_send}
 use Rattle.page_ring.proofs.indexed.IndexedRing.send_to_end.Goals as goal
 
 pub invariant_of-self : goal.invariant_of-self

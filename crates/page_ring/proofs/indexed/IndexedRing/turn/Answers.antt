@@ -3,7 +3,8 @@ use Rattle.std.specs.Prelude.{◌≡◌, ◌≤◌, [], ◌∷◌, List, length,
 use Rattle.std.proofs.Common.{arith, sym, subst}
 use Rattle.page_ring.specs.Linked.{Cell}
 use Rattle.page_ring.specs.Chain.{Chain}
-use Rattle.page_ring.specs.Index.{FindsNodes, node_of, index_turn}
+use Rattle.page_ring.specs.Index.{FindsNodes, node_of}
+use Rattle.page_ring.proofs.IndexLaws.{index_turn}
 use Rattle.page_ring.proofs.indexed.IndexedRing.turn.Goals as goal
 
 pub invariant_of-self : goal.invariant_of-self

@@ -4,7 +4,8 @@ use Rattle.std.proofs.Common.{arith, sym, ap, ◌∙◌, eqb-true}
 use Rattle.std.proofs.lemmas.Bool.Decides.{nat_tests}
 use Rattle.slab.specs.Slab.{slab_len}
 use Rattle.page_ring.specs.Linked.{Cell, is_at}
-use Rattle.page_ring.specs.Chain.{Chain, cells_of, Appended, alone_step, append_step}
+use Rattle.page_ring.specs.Chain.{Chain, cells_of}
+use Rattle.page_ring.proofs.ChainLaws.{Appended, alone_step, append_step}
 use Rattle.page_ring.proofs.links.Links.append.Goals as goal
 
 above : (n : ℕ) → (n == 0) ≡ false → 1 ≤ n

@@ -2,7 +2,8 @@
 use Rattle.std.specs.Prelude.{◌≡◌, true, ◌∷◌, List, ◌++◌}
 use Rattle.std.proofs.Common.{sym, ap, ◌∙◌, subst}
 use Rattle.page_ring.specs.Linked.{Cell, is_at}
-use Rattle.page_ring.specs.Chain.{Chain, cells_of, Changed, changes_at, mark_step, of_kind}
+use Rattle.page_ring.specs.Chain.{Chain, cells_of, of_kind}
+use Rattle.page_ring.proofs.ChainLaws.{Changed, changes_at, mark_step}
 use Rattle.page_ring.proofs.links.Links.mark.Goals as goal
 
 pub invariant_of-self : goal.invariant_of-self

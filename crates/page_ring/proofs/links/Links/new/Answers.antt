@@ -2,7 +2,7 @@
 use Rattle.std.specs.Prelude.{◌≡◌, [], refl}
 use Rattle.slab.specs.Slab.{Slab, slab_len}
 use Rattle.page_ring.specs.declared.links.Node.{Node}
-use Rattle.page_ring.specs.Chain.{new_step, cells_held, held_cells}
+use Rattle.page_ring.proofs.ChainLaws.{new_step, cells_held, held_cells}
 use Rattle.page_ring.proofs.links.Links.new.Goals as goal
 
 none_in : (s : Slab Node) → s.slots ≡ [] → slab_len s ≡ 0

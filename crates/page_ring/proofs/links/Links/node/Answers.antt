@@ -2,7 +2,8 @@
 use Rattle.std.specs.Prelude.{◌≡◌, true, ◌∷◌, List}
 use Rattle.std.proofs.Common.{sym, ap, subst}
 use Rattle.page_ring.specs.Linked.{Cell, is_at}
-use Rattle.page_ring.specs.Chain.{Chain, cells_of, Rotates, held_node, node_around}
+use Rattle.page_ring.specs.Chain.{Chain, cells_of, Rotates}
+use Rattle.page_ring.proofs.ChainLaws.{held_node, node_around}
 use Rattle.page_ring.proofs.links.Links.node.Goals as goal
 
 pub index-requires : goal.index-requires

@@ -2,7 +2,8 @@
 use Rattle.std.specs.Prelude.{◌≡◌, true, List, ◌++◌}
 use Rattle.std.proofs.Common.{sym, ap, ◌∙◌, subst}
 use Rattle.page_ring.specs.Linked.{Cell, is_at}
-use Rattle.page_ring.specs.Chain.{Chain, cells_of, Changed, changes_at, remove_step, held_node}
+use Rattle.page_ring.specs.Chain.{Chain, cells_of}
+use Rattle.page_ring.proofs.ChainLaws.{Changed, changes_at, remove_step, held_node}
 use Rattle.page_ring.proofs.links.Links.remove.Goals as goal
 
 pub unlink-next-requires : goal.unlink-next-requires

@@ -2,7 +2,8 @@
 use Rattle.std.specs.Prelude.{◌≡◌, ◌++◌, true, [], ◌∷◌, List}
 use Rattle.std.proofs.Common.{sym, ap, ◌∙◌, subst}
 use Rattle.page_ring.specs.Linked.{Cell, is_at}
-use Rattle.page_ring.specs.Chain.{Chain, cells_of, Changed, changes_at, of_kind, held_node}
+use Rattle.page_ring.specs.Chain.{Chain, cells_of, of_kind}
+use Rattle.page_ring.proofs.ChainLaws.{Changed, changes_at, held_node}
 use Rattle.page_ring.proofs.SendLaws.{send_front, send_behind}
 use Rattle.page_ring.proofs.links.Links.send_to_end.Goals as goal
 

@@ -2,7 +2,8 @@
 use Rattle.std.specs.Prelude.{◌≡◌, ◌≤◌, List, length}
 use Rattle.std.proofs.Common.{sym, ap, ◌∙◌, subst}
 use Rattle.page_ring.specs.Linked.{Cell}
-use Rattle.page_ring.specs.Chain.{Chain, cells_of, Turned, turned_held, held_front, held_node}
+use Rattle.page_ring.specs.Chain.{Chain, cells_of}
+use Rattle.page_ring.proofs.ChainLaws.{Turned, turned_held, held_front, held_node}
 use Rattle.page_ring.proofs.links.Links.turn.Goals as goal
 
 pub index-requires : goal.index-requires

@@ -4,6 +4,7 @@ use Rattle.page_memory.proofs.MemoryLaws.{reserved_of}
 use Rattle.page_memory.specs.Reservations.{with_reserved}
 use Rattle.page_memory.specs.Words.{page_number}
 use Rattle.paged_memory.specs.access.Access.{LacksPage, MarksUse, cache_of}
+use Rattle.paged_memory.specs.access.HartMemory.{InTurn}
 use Rattle.paged_memory.specs.Paged.{PagedValue, memory_of, flat_pages}
 use Rattle.paged_memory.proofs.access_laws.ReservationLaws.{reserve_refused}
 use Rattle.paged_memory.proofs.hart_memory.HartMemoryBus.load_reserved.Goals as goal
@@ -26,3 +27,8 @@ pub returns-in-Err-clause-answer : goal.returns-in-Err-clause-answer
 returns-in-Err-clause-answer g c =
     let before : PagedValue _ = c.args.self.now.memory.now in
     reserve_refused (LacksPage before.pages) (memory_of g.S.SwapSlot.content before) c.args.address c.in-Err.refusal c.args.hart c.in-Err.ensures.answer
+
+pub invariant_of-self : goal.invariant_of-self
+invariant_of-self g c =
+    let turn = subst (InTurn c.load.new.self.hart g.O.Opening.opening) (sym c.memory.view_is) c.load.new.self.in_turn in
+    record { in_turn = record { started = turn.started; doomed = turn.doomed; filled = turn.filled; marked = turn.marked } }

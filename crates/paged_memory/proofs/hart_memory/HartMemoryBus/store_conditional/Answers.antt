@@ -56,3 +56,6 @@ pub returns-in-Ok-load_to_replace-clause-writes : goal.returns-in-Ok-load_to_rep
 returns-in-Ok-load_to_replace-clause-writes g c =
     let fits = c.ranges.address.fits in
     writes_nothing c.args.self.now.hart c.memory.view_is _ c.release-in-Ok-load_to_replace.new.self (omega arith) c.in-Ok-load_to_replace.ensures.uses c.in-Ok-load_to_replace.ensures.takes
+
+pub invariant_of-self-in-Ok-load_to_replace : goal.invariant_of-self-in-Ok-load_to_replace
+invariant_of-self-in-Ok-load_to_replace g c = record { in_turn = turn_goes_on c.args.self.now.hart c.memory.view_is c.args.self.now.in_turn c.in-Ok-load_to_replace.ensures.uses.kept }

@@ -1,12 +1,16 @@
-use Rattle.std.proofs.Common.{◌≡◌, Some, OnOk, IfErr, ap, refl, sym, ◌∙◌, subst}
+use Rattle.std.proofs.Common.{◌≡◌, Some, Result, Ok, Err, OnOk, IfErr, ap, refl, sym, ◌∙◌, subst}
 use Rattle.page_memory.specs.Entries.{place_of, with_value}
-use Rattle.paged_memory.specs.moves.Filling.{IsAbsent}
+use Rattle.paged_memory.specs.moves.Filling.{IsAbsent, failures_of}
 use Rattle.paged_memory.specs.moves.Moving.{ComesIn, RefusesIn}
 use Rattle.paged_memory.specs.Paged.{PagedValue, flat_pages, page_at, memory_in, memory_of}
-use Rattle.paged_memory.proofs.move_laws.PagedLaws.{page_at-place, page_at-nowhere}
+use Rattle.paged_memory.proofs.move_laws.PagedLaws.{page_at-place, page_at-nowhere, failures_placed}
 use Rattle.paged_memory.proofs.ConstancyLaws.{SameUnwritten}
 use Rattle.paged_memory.proofs.move_laws.FillingLaws.{comes_in, holds_paged_in, memory_paged_in, unwritten_paged_in, pages_brought, pages_refused, entries_brought}
 use Rattle.paged_memory.proofs.memory.PagedMemory.page_in.Goals as goal
+
+on_ok : {A E : Type 0} {P Q : Type 0} (result : Result A E) → (P → Q) → OnOk result P → OnOk result Q
+on_ok (Ok done) follows passed = follows passed
+on_ok (Err refusal) follows passed = tt
 
 pub returns-in_default-clause-refused : goal.returns-in_default-clause-refused
 returns-in_default-clause-refused g c = (
@@ -50,6 +54,13 @@ returns-clause-ok g c =
     c.bring_page_in.ensures.entries)
     c.bring_page_in.ensures.tables
     (λ is_honest. ap (λ p. record { pages = p; reserved = c.self.inside.reservations }) (memory_paged_in g.S.SwapSlot.content g.S.SwapSlot.honest g.S.SwapSlot.failures c.args.frame c.self.inside.pages after.pages c.self.inside.tables c.bring_page_in.new.tables c.args.vpn c.bring_page_in.result ok refused is_honest)))
+
+pub returns-clause-passed : goal.returns-clause-passed
+returns-clause-passed g c =
+    let at : place_of c.args.vpn c.self.inside.pages ≡ Some c.in-Some.place = sym c.place.ensures.place ∙ c.in-Some.is in
+    let pages = with_value c.self.inside.pages c.in-Some.place c.bring_page_in.new.page in
+    subst (λ (v : PagedValue _). OnOk c.bring_page_in.result (failures_of g.S.SwapSlot.failures (page_at pages c.args.vpn) ≡ failures_of g.S.SwapSlot.failures (page_at v.pages c.args.vpn))) c.self.view_is
+    (on_ok c.bring_page_in.result (failures_placed g.S.SwapSlot.failures c.self.inside.pages c.args.vpn c.in-Some.place c.at_mut.result.now c.bring_page_in.new.page at c.at_mut.ensures.value) c.bring_page_in.ensures.passed)
 
 pub returns-clause-refused : goal.returns-clause-refused
 returns-clause-refused g c =

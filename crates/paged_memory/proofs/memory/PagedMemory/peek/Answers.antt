@@ -1,6 +1,8 @@
 use Rattle.std.proofs.Common.{◌≡◌, Some, ap, subst}
 use Rattle.std.specs.Prelude.{OnOk, length}
-use Rattle.paged_memory.specs.Paged.{flat_pages, page_at, memory_in, memory_of}
+use Rattle.page_memory.specs.Words.{page_number}
+use Rattle.paged_memory.specs.moves.Filling.{failures_of}
+use Rattle.paged_memory.specs.Paged.{PagedValue, flat_pages, page_at, memory_in, memory_of}
 use Rattle.paged_memory.specs.Peeking.{bytes_of}
 use Rattle.paged_memory.proofs.ConstancyLaws.{SameUnwritten}
 use Rattle.paged_memory.proofs.PeekingLaws.{holds_peeked, memory_peeked, unwritten_peeked, bytes_shown}
@@ -25,3 +27,8 @@ pub returns-clause-read_only : goal.returns-clause-read_only
 returns-clause-read_only g c =
     subst (λ v. SameUnwritten (memory_of g.S.SwapSlot.content v).pages (flat_pages g.S.SwapSlot.content c.read_page.new.pages)) c.self.view_is
     (unwritten_peeked g.S.SwapSlot.content g.S.SwapSlot.honest c.self.inside.pages c.read_page.new.pages c.self.inside.tables c.self.inside.caches c.page_of.result (page_at c.self.inside.pages c.page_of.result) c.page_of.ensures.small c.read_page.ensures.left c.self.invariant)
+
+pub returns-clause-passed : goal.returns-clause-passed
+returns-clause-passed g c =
+    subst (λ (v : PagedValue _). OnOk c.read_page.result (failures_of g.S.SwapSlot.failures (page_at c.read_page.new.pages (page_number c.args.address)) ≡ failures_of g.S.SwapSlot.failures (page_at v.pages (page_number c.args.address)))) c.self.view_is
+    (subst (λ n. OnOk c.read_page.result (failures_of g.S.SwapSlot.failures (page_at c.read_page.new.pages n) ≡ failures_of g.S.SwapSlot.failures (page_at c.self.inside.pages n))) c.page_of.ensures.number c.read_page.ensures.passed)

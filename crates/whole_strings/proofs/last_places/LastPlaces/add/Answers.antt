@@ -1,6 +1,6 @@
 use Rattle.std.proofs.Common.{◌≡◌, ◌/◌, arith}
 use Rattle.whole_strings.specs.LastPlaces.{total}
-use Rattle.whole_strings.specs.PlaceSumLaws.{adds_is, noted_back, small_one, blocks_total, groups_total}
+use Rattle.whole_strings.proofs.PlaceSumLaws.{adds_is, noted_back, small_one, blocks_total, groups_total}
 use Rattle.whole_strings.proofs.last_places.LastPlaces.add.Goals as goal
 
 pub note_hit-requires-clause-small : goal.note_hit-requires-clause-small

@@ -1,6 +1,6 @@
 use Rattle.std.proofs.Common.{◌≡◌, ◌≤◌, ◌+◌, ◌-◌, ◌/◌, ◌∙◌, take, drop, length, arith, ap}
 use Rattle.whole_strings.specs.LastPlaces.{total, sum_from}
-use Rattle.whole_strings.specs.PlaceSumLaws.{behind_slices, behind_few, blocks_total, groups_total, total_part}
+use Rattle.whole_strings.proofs.PlaceSumLaws.{behind_slices, behind_few, blocks_total, groups_total, total_part}
 use Rattle.whole_strings.proofs.last_places.LastPlaces.behind.Goals as goal
 
 pub sum_in_block-middle-requires-clause-small : goal.sum_in_block-middle-requires-clause-small

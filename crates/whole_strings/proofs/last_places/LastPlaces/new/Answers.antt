@@ -1,5 +1,5 @@
 use Rattle.std.proofs.Common.{refl, ◌/◌, ◌+◌}
-use Rattle.whole_strings.specs.PlaceSumLaws.{summed_none}
+use Rattle.whole_strings.proofs.PlaceSumLaws.{summed_none}
 use Rattle.whole_strings.proofs.last_places.LastPlaces.new.Goals as goal
 
 pub returns-clause-sums : goal.returns-clause-sums

@@ -1,5 +1,5 @@
 use Rattle.std.proofs.Common.{◌/◌}
-use Rattle.whole_strings.specs.PlaceSumLaws.{removes_is, lowered_back, some_one, block_some}
+use Rattle.whole_strings.proofs.PlaceSumLaws.{removes_is, lowered_back, some_one, block_some}
 use Rattle.whole_strings.proofs.last_places.LastPlaces.remove.Goals as goal
 
 pub lower-requires-2-clause-some : goal.lower-requires-2-clause-some

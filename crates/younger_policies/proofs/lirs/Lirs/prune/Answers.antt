@@ -1,5 +1,6 @@
 use Rattle.std.proofs.Common.{sym, ◌∙◌}
-use Rattle.younger_policies.specs.LirsLaws.{lists_of, pruned_more}
+use Rattle.younger_policies.specs.Lirs.{lists_of}
+use Rattle.younger_policies.proofs.LirsLaws.{pruned_more}
 use Rattle.younger_policies.proofs.lirs.Lirs.prune.Goals as goal
 
 pub loop-turn-preserved : goal.loop-turn-preserved

@@ -1,6 +1,5 @@
 use Rattle.std.proofs.Common.{◌≡◌, ◌-◌}
-use Rattle.younger_policies.specs.Lirs.{pruned}
-use Rattle.younger_policies.specs.LirsLaws.{lists_of}
+use Rattle.younger_policies.specs.Lirs.{pruned, lists_of}
 use Rattle.younger_policies.proofs.lirs.Lirs.prune.Given as goal
 
 abbrev pub invariant-loop-turn : goal.invariant-loop-turn

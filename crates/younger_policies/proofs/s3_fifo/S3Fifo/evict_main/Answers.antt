@@ -1,5 +1,6 @@
 use Rattle.std.proofs.Common.{◌∙◌}
-use Rattle.younger_policies.specs.S3FifoLaws.{queues_of, main_more}
+use Rattle.younger_policies.specs.S3Fifo.{queues_of}
+use Rattle.younger_policies.proofs.S3FifoLaws.{main_more}
 use Rattle.younger_policies.proofs.s3_fifo.S3Fifo.evict_main.Goals as goal
 
 pub loop-turn-preserved : goal.loop-turn-preserved

@@ -1,6 +1,5 @@
 use Rattle.std.proofs.Common.{◌≡◌, ◌-◌}
-use Rattle.younger_policies.specs.S3Fifo.{evicted_main}
-use Rattle.younger_policies.specs.S3FifoLaws.{queues_of}
+use Rattle.younger_policies.specs.S3Fifo.{evicted_main, queues_of}
 use Rattle.younger_policies.proofs.s3_fifo.S3Fifo.evict_main.Given as goal
 
 abbrev pub invariant-loop-turn : goal.invariant-loop-turn

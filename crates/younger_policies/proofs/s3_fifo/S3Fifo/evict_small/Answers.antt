@@ -1,7 +1,7 @@
 use Rattle.std.proofs.Common.{◌∙◌, ap}
 use Rattle.page_policies.specs.Ordered.{last_of}
-use Rattle.younger_policies.specs.S3Fifo.{small_up}
-use Rattle.younger_policies.specs.S3FifoLaws.{queues_of, small_more}
+use Rattle.younger_policies.specs.S3Fifo.{small_up, queues_of}
+use Rattle.younger_policies.proofs.S3FifoLaws.{small_more}
 use Rattle.younger_policies.proofs.s3_fifo.S3Fifo.evict_small.Goals as goal
 
 pub loop-turn-preserved : goal.loop-turn-preserved

@@ -1,6 +1,5 @@
 use Rattle.std.proofs.Common.{◌∙◌, ap}
-use Rattle.younger_policies.specs.S3Fifo.{main_cut, small_up}
-use Rattle.younger_policies.specs.S3FifoLaws.{queues_of}
+use Rattle.younger_policies.specs.S3Fifo.{main_cut, small_up, queues_of}
 use Rattle.younger_policies.proofs.s3_fifo.S3Fifo.move_up.Goals as goal
 
 pub returns-clause-queues : goal.returns-clause-queues

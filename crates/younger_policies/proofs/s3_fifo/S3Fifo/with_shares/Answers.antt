@@ -1,4 +1,4 @@
-use Rattle.younger_policies.specs.S3FifoLaws.{s3_fifo_opens}
+use Rattle.younger_policies.proofs.S3FifoLaws.{s3_fifo_opens}
 use Rattle.younger_policies.proofs.s3_fifo.S3Fifo.with_shares.Goals as goal
 
 pub returns : goal.returns

@@ -1,6 +1,5 @@
 use Rattle.std.proofs.Common.{◌∙◌, ap}
-use Rattle.younger_policies.specs.Sieve.{wrapped, passed}
-use Rattle.younger_policies.specs.SieveLaws.{queue_of}
+use Rattle.younger_policies.specs.Sieve.{wrapped, passed, queue_of}
 use Rattle.younger_policies.proofs.sieve.Sieve.pass.Goals as goal
 
 pub returns-clause-queue : goal.returns-clause-queue

@@ -1,5 +1,6 @@
 use Rattle.std.proofs.Common.{◌∙◌, sym}
-use Rattle.younger_policies.specs.SieveLaws.{queue_of, swept_more}
+use Rattle.younger_policies.specs.Sieve.{queue_of}
+use Rattle.younger_policies.proofs.SieveLaws.{swept_more}
 use Rattle.younger_policies.proofs.sieve.Sieve.sweep.Goals as goal
 
 pub loop-turn-preserved : goal.loop-turn-preserved

@@ -1,6 +1,5 @@
 use Rattle.std.proofs.Common.{◌≡◌, ◌-◌}
-use Rattle.younger_policies.specs.Sieve.{swept}
-use Rattle.younger_policies.specs.SieveLaws.{queue_of}
+use Rattle.younger_policies.specs.Sieve.{swept, queue_of}
 use Rattle.younger_policies.proofs.sieve.Sieve.sweep.Given as goal
 
 abbrev pub invariant-loop-turn : goal.invariant-loop-turn

@@ -1,4 +1,4 @@
-use Rattle.younger_policies.specs.SieveLaws.{sieve_opens}
+use Rattle.younger_policies.proofs.SieveLaws.{sieve_opens}
 use Rattle.younger_policies.proofs.sieve.SievePolicy.new.Goals as goal
 
 pub returns-clause-misses : goal.returns-clause-misses

@@ -5,15 +5,15 @@ use Rattle.std.proofs.lemmas.Bool.Decides.{nat_tests}
 use Rattle.std.proofs.lemmas.Option.{same_Some}
 use Rattle.clock_policy.specs.declared.key.Key.{Key}
 use Rattle.page_policies.specs.Strings.{is_page, without}
-use Rattle.page_policies.specs.QueueLaws.{same}
+use Rattle.page_policies.proofs.QueueLaws.{same}
 use Rattle.page_policies.specs.Ordered.{to_front}
-use Rattle.page_policies.specs.DemandLaws.{one}
-use Rattle.whole_strings.specs.LruDepths.{depth, IsLruCurve, depth as depth_of_page}
-use Rattle.whole_strings.specs.LruDepthLaws.{flip_page, tails, referred, Counting, counting_along, counting_begins, counting_end, count_small}
-use Rattle.whole_strings.specs.LastPlaces.{sum_from}
+use Rattle.page_policies.specs.Demand.{one}
+use Rattle.whole_strings.specs.LruDepths.{IsLruCurve, tails, referred}
+use Rattle.whole_strings.proofs.LruDepthLaws.{flip_page, Counting, counting_along, counting_begins, counting_end, count_small, depth, depth as depth_of_page}
+use Rattle.whole_strings.specs.LastPlaces.{sum_from, Left, MayLeave, AreSummed, Adds}
 use Rattle.whole_strings.specs.declared.last_places.LastPlaces.{LastPlaces}
-use Rattle.page_policies.specs.NumberLaws.{yes_less, no_less}
-use Rattle.whole_strings.specs.PlaceSumLaws.{sum_here, sums_none, length_replicate, AreSummed, Adds, Removes}
+use Rattle.page_policies.proofs.NumberLaws.{yes_less, no_less}
+use Rattle.whole_strings.proofs.PlaceSumLaws.{sum_here, sums_none, length_replicate}
 
 -- ---- the stack, each page with the place of its last use
 
@@ -251,16 +251,6 @@ place_known seen t p counts ends places string inside is before =
   where
     one_on : (t : ℕ) → suc t ≡ t + 1
     one_on t = omega arith
-
--- the depth at which a page is found that has this place, and the counts without it
-abbrev pub Left : Option ℕ → ℕ → LastPlaces → LastPlaces → ℕ → Type 0
-Left None pages old new depth = (depth ≡ pages) × (new ≡ old)
-Left (Some t) pages old new depth = (depth ≡ sum_from (t + 1) old.places.items) × Removes t old new
-
--- what a page's place has to be
-abbrev pub MayLeave : Option ℕ → LastPlaces → Type 0
-MayLeave None places = ⊤
-MayLeave (Some t) places = (t < length places.places.items) × (0 < slice_index_or places.places.items t 0)
 
 pub may_leave : (seen : ℕ) (p : Key) (o : Option ℕ) (counts : List ℕ) (ends : Key → Option ℕ) (places : LastPlaces) (string : List Key) → seen < length string → ends p ≡ o → Places seen counts ends places string → MayLeave o places
 may_leave seen p None counts ends places string inside is before = tt

@@ -4,13 +4,10 @@ use Rattle.std.proofs.Common.{arith, sym, ap, subst, ◌∙◌}
 use Rattle.std.proofs.lemmas.Bool.Decides.{nat_tests}
 use Rattle.clock_policy.specs.declared.key.Key.{Key}
 use Rattle.page_policies.specs.Strings.{is_page, holds}
-use Rattle.page_policies.specs.QueueLaws.{same}
+use Rattle.page_policies.proofs.QueueLaws.{same}
 use Rattle.page_policies.specs.Optimal.{next_use, but_farthest, room_for, optimal_from, optimal_misses}
-use Rattle.page_policies.specs.Demand.{number, MayLeave, Plays, NoneMissesLess}
-use Rattle.page_policies.specs.CountLaws.{is_near, near, number_few, none_number, some_number, near_after, Room, room_is}
-
-abbrev pub one : Bool → ℕ
-one b = cond b 1 0
+use Rattle.page_policies.specs.Demand.{number, one, MayLeave, Plays, NoneMissesLess}
+use Rattle.page_policies.proofs.CountLaws.{is_near, near, number_few, none_number, some_number, near_after, Room, room_is}
 
 pub page_number : (p : Key) (s : List Key) → number (is_page p) s ≤ 1 → number (is_page p) s ≡ one (holds p s)
 page_number p s once = elim (holds p s) as (λ b. holds p s ≡ b → number (is_page p) s ≡ one b) [

@@ -5,18 +5,21 @@ use Rattle.std.proofs.lemmas.Bool.Decides.{nat_tests}
 use Rattle.clock_policy.specs.declared.key.Key.{Key}
 use Rattle.page_policies.specs.Strings.{is_page, holds, without, misses}
 use Rattle.page_policies.specs.Queues.{lru, lru_misses}
-use Rattle.page_policies.specs.QueueLaws.{same}
+use Rattle.page_policies.proofs.QueueLaws.{same}
 use Rattle.page_policies.specs.Ordered.{to_front}
 use Rattle.page_policies.proofs.InclusionLaws.{cut_step, nothing}
-use Rattle.page_policies.specs.NumberLaws.{less, most}
-use Rattle.whole_strings.specs.LruDepths.{depth, hits_within, CountsLru, IsLruCurve}
+use Rattle.page_policies.proofs.NumberLaws.{less, most}
+use Rattle.whole_strings.specs.LruDepths.{hits_within, IsLruCurve, noted, tails, referred}
 use Rattle.whole_strings.specs.PageCounts.{first_uses, page_count}
 
--- one more in this place
-abbrev pub noted : ℕ → List ℕ → List ℕ
-noted d [] = []
-noted zero (n ∷ ns) = suc n ∷ ns
-noted (suc d) (n ∷ ns) = n ∷ noted d ns
+-- how many pages are before it; where it is nowhere, how many there are
+abbrev pub depth : Key → List Key → ℕ
+depth p [] = 0
+depth p (q ∷ qs) = cond (is_page p q) 0 (suc (depth p qs))
+
+-- what was counted and what is to come make what LRU misses of a whole string, with any number of frames
+abbrev pub CountsLru : ℕ → List ℕ → List Key → List Key → List Key → Type 0
+CountsLru seen counts stack rest string = (m : ℕ) → lru_misses m string + hits_within m counts ≡ seen + misses holds (lru m) (take m stack) rest
 
 next : (d m : ℕ) → nat_lt d m ≡ nat_lt (suc d) (suc m)
 next d m = grind (arith, nat_tests)
@@ -206,11 +209,6 @@ length_front_found p (q ∷ qs) h = elim (is_page p q) as (λ b. cond b 0 (suc (
   | false ↦ λ g. ap suc (length_front_found p qs (omega (arith, g)))
 ] h
 
--- the misses with 1, 2, 3 and more frames, from those with none
-abbrev pub tails : ℕ → List ℕ → List ℕ
-tails n [] = []
-tails n (k ∷ ks) = (n - k) ∷ tails (n - k) ks
-
 pub length_tails : (n : ℕ) (ks : List ℕ) → length (tails n ks) ≡ length ks
 length_tails n [] = refl
 length_tails n (k ∷ ks) = ap suc (length_tails (n - k) ks)
@@ -255,9 +253,6 @@ noted_set zero (k ∷ ks) = ap (λ (n : ℕ). n ∷ ks) (one k)
 noted_set (suc d) (k ∷ ks) = ap (λ (l : List ℕ). k ∷ l) (noted_set d ks)
 
 -- one reference, wherever its page is
-
-abbrev pub referred : ℕ → List ℕ → List ℕ
-referred d counts = cond (nat_lt d (length counts)) (noted d counts) (counts ++ 0 ∷ [])
 
 pub record Counting (seen : ℕ) (counts : List ℕ) (stack rest string : List Key) : Type 0 where
   pub counts_lru : CountsLru seen counts stack rest string

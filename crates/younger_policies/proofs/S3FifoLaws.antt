@@ -1,4 +1,4 @@
--- The counter of S3-FIFO as its definition sees it.
+-- S3-FIFO's queues give pages up one by one: proofs.
 use Rattle.std.specs.Prelude.{◌≡◌, ℕ, suc, ◌+◌, ◌-◌, ◌<◌, Bool, true, cond, nat_lt, List, []}
 use Rattle.std.specs.HashMap.{get}
 use Rattle.std.proofs.Common.{arith, sym, ap, ◌∙◌}
@@ -8,11 +8,8 @@ use Rattle.page_policies.specs.NextUses.{known}
 use Rattle.page_policies.specs.Ordered.{last_of}
 use Rattle.younger_policies.specs.declared.s3_fifo_shares.S3FifoShares.{S3FifoShares}
 use Rattle.younger_policies.specs.declared.s3_fifo_shares.S3FifoRooms.{S3FifoRooms}
-use Rattle.younger_policies.specs.S3Fifo.{S3FifoState, rooms_of, tail_freq, main_again, main_out, evicted_main, small_up, small_out, evicted_small, in_s3_fifo, s3_fifo, s3_fifo_misses}
+use Rattle.younger_policies.specs.S3Fifo.{S3FifoState, rooms_of, tail_freq, main_again, main_out, evicted_main, small_up, small_out, evicted_small, in_s3_fifo, s3_fifo, s3_fifo_misses, queues_of}
 use Rattle.younger_policies.specs.declared.s3_fifo.S3Fifo.{S3Fifo}
-
-abbrev pub queues_of : S3Fifo → S3FifoState
-queues_of s = record { small = s.small; main = s.main; ghosts = s.ghosts; freq = λ q. known (get is_page s.freq q) }
 
 pub main_more : (n i : ℕ) (s t : S3FifoState) → i < n → true ≡ nat_lt 0 (tail_freq (last_of s.main) s) → t ≡ main_again (last_of s.main) s → evicted_main (n - (i + 1)) t ≡ evicted_main (n - i) s
 main_more n i s t h used is =

@@ -1,15 +1,12 @@
--- The counter of SIEVE as its definition sees it.
+-- SIEVE's hand passes pages one by one: proofs.
 use Rattle.std.specs.Prelude.{◌≡◌, ℕ, suc, ◌+◌, ◌-◌, ◌<◌, Bool, true, false, cond, List, []}
 use Rattle.std.specs.HashSet.{contains}
 use Rattle.std.proofs.Common.{arith, sym, ap, ◌∙◌}
 use Rattle.clock_policy.specs.declared.key.Key.{Key}
 use Rattle.page_policies.specs.Strings.{is_page, misses}
 use Rattle.page_policies.specs.Ordered.{last_of}
-use Rattle.younger_policies.specs.Sieve.{SieveState, hand_visited, passed, discarded, swept, in_sieve, sieve, sieve_misses}
+use Rattle.younger_policies.specs.Sieve.{SieveState, hand_visited, passed, discarded, swept, in_sieve, sieve, sieve_misses, queue_of}
 use Rattle.younger_policies.specs.declared.sieve.Sieve.{Sieve}
-
-abbrev pub queue_of : Sieve → SieveState
-queue_of s = record { ahead = s.ahead; behind = s.behind; visited = λ q. contains is_page s.visited q }
 
 pub swept_more : (n i : ℕ) (s t : SieveState) → i < n → true ≡ hand_visited (last_of s.ahead) s → t ≡ passed (last_of s.ahead) s → swept (n - (i + 1)) t ≡ swept (n - i) s
 swept_more n i s t h used is =

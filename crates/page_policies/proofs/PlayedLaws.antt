@@ -4,11 +4,11 @@ use Rattle.std.proofs.Common.{arith, ap}
 use Rattle.clock_policy.specs.declared.key.Key.{Key}
 use Rattle.page_policies.specs.Strings.{is_page, holds, without, misses}
 use Rattle.page_policies.specs.Queues.{fifo, lru, fifo_misses, lru_misses}
-use Rattle.page_policies.specs.QueueLaws.{itself, same}
+use Rattle.page_policies.proofs.QueueLaws.{itself, same}
 use Rattle.page_policies.specs.Optimal.{room_for, optimal_from, optimal_misses}
 use Rattle.page_policies.specs.Demand.{number, MayLeave, Plays, IsPlayed}
-use Rattle.page_policies.specs.CountLaws.{Room, room_is}
-use Rattle.page_policies.specs.DemandLaws.{room_fewer}
+use Rattle.page_policies.proofs.CountLaws.{Room, room_is}
+use Rattle.page_policies.proofs.DemandLaws.{room_fewer}
 
 pub here : (p : Key) (s : List Key) → holds p (p ∷ s) ≡ true
 here p s = ap (λ (b : Bool). cond b true (holds p s)) (itself p)

@@ -1,17 +1,8 @@
--- The counter of LIRS as its definition sees it.
-use Rattle.std.specs.Prelude.{◌≡◌, ℕ, suc, ◌+◌, ◌-◌, ◌<◌, Bool, false, cond, List}
+-- Pages leave the bottom of LIRS's stack one by one: a proof.
+use Rattle.std.specs.Prelude.{◌≡◌, ℕ, suc, ◌+◌, ◌-◌, ◌<◌, Bool, false, cond}
 use Rattle.std.proofs.Common.{arith, sym, ap, ◌∙◌}
-use Rattle.clock_policy.specs.declared.key.Key.{Key}
 use Rattle.page_policies.specs.Ordered.{last_of}
 use Rattle.younger_policies.specs.Lirs.{LirsState, is_bottom_lir, without_bottom, pruned}
-use Rattle.younger_policies.specs.declared.lirs.Lirs.{Lirs}
-
-abbrev pub lists_of : Lirs → LirsState
-lists_of s = record { lir = s.lir; stack = s.stack; queue = s.queue; gone = s.gone }
-
--- with other pages that are in no frame
-abbrev pub with_gone : List Key → LirsState → LirsState
-with_gone gone s = record { lir = s.lir; stack = s.stack; queue = s.queue; gone = gone }
 
 pub pruned_more : (n i : ℕ) (s t : LirsState) → i < n → false ≡ is_bottom_lir (last_of s.stack) s → t ≡ without_bottom s → pruned (n - (i + 1)) t ≡ pruned (n - i) s
 pruned_more n i s t h lir is =

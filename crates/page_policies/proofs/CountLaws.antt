@@ -4,7 +4,7 @@ use Rattle.std.proofs.Common.{arith, sym, ap}
 use Rattle.std.proofs.lemmas.Bool.Decides.{nat_tests}
 use Rattle.clock_policy.specs.declared.key.Key.{Key}
 use Rattle.page_policies.specs.Strings.{is_page, holds}
-use Rattle.page_policies.specs.QueueLaws.{same}
+use Rattle.page_policies.proofs.QueueLaws.{same}
 use Rattle.page_policies.specs.Optimal.{next_use, but_farthest, room_for}
 use Rattle.page_policies.specs.Demand.{number}
 

@@ -1,10 +1,11 @@
 -- Sums of the places that count, by blocks and groups of them: proofs.
 use Rattle.std.specs.Prelude.{◌≡◌, ℕ, zero, suc, ◌+◌, ◌-◌, ◌*◌, ◌/◌, ◌%◌, ◌^◌, ◌<◌, ◌≤◌, true, false, nat_lt, min, List, [], ◌∷◌, ◌++◌, take, drop, length, replicate, slice_index_or, slice_set, refl}
 use Rattle.std.proofs.Common.{arith, sym, ap, subst, ◌∙◌}
-use Rattle.page_policies.specs.DemandLaws.{one}
-use Rattle.page_policies.specs.NumberLaws.{less, most, yes_less, no_less, next_less}
-use Rattle.whole_strings.specs.LruDepthLaws.{noted, length_noted, come_back}
-use Rattle.whole_strings.specs.LastPlaces.{total, sum_from, AreBlockSums, lowered}
+use Rattle.page_policies.specs.Demand.{one}
+use Rattle.page_policies.proofs.NumberLaws.{less, most, yes_less, no_less, next_less}
+use Rattle.whole_strings.specs.LruDepths.{noted}
+use Rattle.whole_strings.proofs.LruDepthLaws.{length_noted, come_back}
+use Rattle.whole_strings.specs.LastPlaces.{total, sum_from, AreBlockSums, lowered, AreSummed, Adds, Removes}
 use Rattle.whole_strings.specs.declared.last_places.LastPlaces.{LastPlaces}
 
 -- ---- sums of counts
@@ -185,22 +186,6 @@ behind_is at xs ys sums =
         cut_to (suc m) (suc n) (x ∷ xs) h = ap (λ (l : List ℕ). x ∷ l) (cut_to m n xs (omega (arith, h)))
 
 -- ---- the counts of the places of last uses
-
-pub record AreSummed (c : LastPlaces) : Type 0 where
-  pub blocks : AreBlockSums c.places.items c.blocks.items
-  pub groups : AreBlockSums c.blocks.items c.groups.items
-
--- one place more counts
-pub record Adds (at : ℕ) (old new : LastPlaces) : Type 0 where
-  pub sums : AreSummed new
-  pub size : length new.places.items ≡ length old.places.items
-  pub counted : (k : ℕ) → sum_from k new.places.items ≡ sum_from k old.places.items + one (nat_lt k (suc at))
-
--- one place less counts
-pub record Removes (at : ℕ) (old new : LastPlaces) : Type 0 where
-  pub sums : AreSummed new
-  pub size : length new.places.items ≡ length old.places.items
-  pub counted : (k : ℕ) → sum_from k old.places.items ≡ sum_from k new.places.items + one (nat_lt k (suc at))
 
 pub adds_is : (at : ℕ) (old new : LastPlaces) → at < length old.places.items → AreSummed old → new.places.items ≡ noted at old.places.items → new.blocks.items ≡ noted (at / 256) old.blocks.items → new.groups.items ≡ noted (at / 256 / 256) old.groups.items → Adds at old new
 adds_is at old new inside summed p b g = record {

@@ -1,6 +1,5 @@
--- The list and a set of pages as a play.
+-- What a play does by and by: proofs.
 use Rattle.std.specs.Prelude.{◌≡◌, ◌≢◌, ℕ, zero, suc, ◌+◌, ◌-◌, ◌<◌, Bool, true, false, cond, Option, Some, None, Result, Ok, Err, refl}
-use Rattle.std.specs.HashSet.{HashSet, contains}
 use Rattle.std.proofs.Common.{arith, sym, ap, ◌∙◌}
 use Rattle.clock_policy.specs.declared.key.Key.{Key}
 use Rattle.clock_policy.specs.declared.answer.Kind.{Kind}
@@ -10,11 +9,7 @@ use Rattle.clock_policy.specs.declared.entry.EntryKind.TheVariants.{Hot, Test, C
 use Rattle.clock_policy.specs.declared.refusal.Refusal.{Refusal}
 use Rattle.clock_policy.specs.declared.refusal.Refusal.TheVariants.{Full, NoMemory}
 use Rattle.clock_policy.specs.ClockPro.{ClockState, Answer, admitted, question_of, kind_of, kind_admitted, is_full, appended, grown, sent_to_end}
-use Rattle.page_policies.specs.Strings.{is_page}
 use Rattle.younger_policies.specs.ClockProPlay.{Play, asked, entered, placed, is_full_refusal}
-
-abbrev pub play_of : {S : Type 0} → ClockState → HashSet Key S → Play
-play_of clock used = record { clock = clock; used = λ q. contains is_page used q }
 
 pub placed_more : (n i : ℕ) (p : Key) (s t : Play) → i < n → is_full_refusal (admitted p s.clock).1 ≡ true → t ≡ asked (question_of s.clock) s → placed (n - (i + 1)) p t ≡ placed (n - i) p s
 placed_more n i p s t h full is =

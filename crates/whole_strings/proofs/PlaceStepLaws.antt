@@ -6,15 +6,15 @@ use Rattle.std.specs.Ordering.{nat_cmp}
 use Rattle.std.specs.BTreeSet.{insert_key}
 use Rattle.clock_policy.specs.declared.key.Key.{Key}
 use Rattle.page_policies.specs.Strings.{is_page, holds}
-use Rattle.page_policies.specs.QueueLaws.{same}
+use Rattle.page_policies.proofs.QueueLaws.{same}
 use Rattle.page_policies.specs.Optimal.{next_use, but_farthest, room_for, optimal_from, optimal_misses}
 use Rattle.page_policies.specs.NextUses.{next_uses}
-use Rattle.page_policies.specs.Demand.{number}
-use Rattle.page_policies.specs.CountLaws.{is_near, near, none_number, Room, room_is, length_but}
-use Rattle.page_policies.specs.DemandLaws.{one, page_number, near_now, Once, once_more, holds_none, hit_exact, miss_exact, room_fewer}
-use Rattle.page_policies.specs.PlayedLaws.{here}
+use Rattle.page_policies.specs.Demand.{number, one}
+use Rattle.page_policies.proofs.CountLaws.{is_near, near, none_number, Room, room_is, length_but}
+use Rattle.page_policies.proofs.DemandLaws.{page_number, near_now, Once, once_more, holds_none, hit_exact, miss_exact, room_fewer}
+use Rattle.page_policies.proofs.PlayedLaws.{here}
 use Rattle.whole_strings.specs.NextPlaces.{under, place, Roomed, Refers}
-use Rattle.whole_strings.specs.NextPlaceLaws.{under_few, under_more, insert_under, insert_length}
+use Rattle.whole_strings.proofs.NextPlaceLaws.{under_few, under_more, insert_under, insert_length}
 
 -- Before the reference at `at` of n the pages s are in m frames, and the numbers are the places of their next uses in what is left.
 pub record Stands (m at n : ℕ) (keys : List ℕ) (rest s : List Key) : Type 0 where

@@ -1,5 +1,5 @@
 -- Working sets counted by how far ahead each page is used again: proofs.
-use Rattle.std.specs.Prelude.{◌≡◌, ℕ, zero, suc, ◌+◌, ◌-◌, ◌<◌, ◌≤◌, ◌&&◌, ◌==◌, Bool, true, false, cond, nat_le, nat_lt, List, [], ◌∷◌, take, drop, length, slice_index_or, slice_get, Some, min, ◌++◌, ◌^◌, ⊤, refl}
+use Rattle.std.specs.Prelude.{◌≡◌, ℕ, zero, suc, ◌+◌, ◌-◌, ◌<◌, ◌≤◌, ◌&&◌, ◌==◌, Bool, true, false, cond, nat_le, nat_lt, List, [], ◌∷◌, take, drop, length, slice_index_or, slice_get, Some, min, ◌++◌, ◌^◌, refl}
 use Rattle.std.proofs.Common.{arith, sym, ap, ◌∙◌, subst, replicate}
 use Rattle.std.proofs.Math.ListN.{length-replicate}
 use Rattle.std.proofs.lemmas.Bool.Decides.{nat_tests}
@@ -7,15 +7,13 @@ use Rattle.clock_policy.specs.declared.key.Key.{Key}
 use Rattle.page_policies.specs.Strings.{is_page, holds}
 use Rattle.page_policies.specs.Optimal.{next_use}
 use Rattle.page_policies.specs.NextUses.{next_uses}
-use Rattle.page_policies.specs.QueueLaws.{same}
-use Rattle.whole_strings.specs.LruDepths.{hits_within}
-use Rattle.whole_strings.specs.LruDepthLaws.{noted, noted_within, length_noted, length_new, Few, few_more, few_noted}
-use Rattle.whole_strings.specs.PlaceStepLaws.{length_uses}
-use Rattle.whole_strings.specs.WorkingSets.{pages_beside, set_size, sizes_from, missing_from, set_sizes, set_misses, at_most_word, counts_of, IsWindowCurve}
+use Rattle.page_policies.specs.Demand.{one}
+use Rattle.page_policies.proofs.QueueLaws.{same}
+use Rattle.whole_strings.specs.LruDepths.{hits_within, noted}
+use Rattle.whole_strings.proofs.LruDepthLaws.{noted_within, length_noted, length_new, Few, few_more, few_noted}
+use Rattle.whole_strings.proofs.PlaceStepLaws.{length_uses}
+use Rattle.whole_strings.specs.WorkingSets.{pages_beside, set_size, sizes_from, missing_from, set_sizes, set_misses, at_most_word, counts_of, IsWindowCurve, reaching, comes_back, returning, IsAhead, IsReturning, Inside}
 use Rattle.whole_strings.specs.declared.working_sets.WindowCounts.{WindowCounts}
-
-abbrev one : Bool → ℕ
-one b = cond b 1 0
 
 -- ---- pages
 
@@ -130,11 +128,6 @@ waits_step (suc left) others others' (q ∷ qs) p ps h =
     let later = waits_step left (q ∷ others) (q ∷ others') qs p ps (joins_more p q others others' h) in
     omega (arith, now, later)
 
--- how many references have at least so many others before their page is used again, or before the end
-abbrev pub reaching : ℕ → List Key → ℕ
-reaching window [] = 0
-reaching window (p ∷ ps) = one (nat_le window (next_use p ps)) + reaching window ps
-
 alone : (p : Key) → Joins p [] (p ∷ [])
 alone p x = refl
 
@@ -167,10 +160,6 @@ unfolding set_sizes
 sizes_open string = sizes_zero [] string
 
 -- ---- references that are found
-
--- a page is used again, with fewer than so many references before
-abbrev comes_back : ℕ → Key → List Key → Bool
-comes_back window q string = nat_lt (next_use q string) window && nat_lt (next_use q string) (length string)
 
 abbrev found_from : ℕ → List Key → List Key → ℕ
 found_from window past [] = 0
@@ -268,11 +257,6 @@ due_step (suc left) others others' (q ∷ qs) p ps h =
     ap (λ (b : Bool). let n : ℕ = cond b 0 (one (comes_back (suc left) q ps)) in n) among in
     omega (arith, back, later, all, here)
 
--- how many references' pages are used again, with fewer than so many others before
-abbrev pub returning : ℕ → List Key → ℕ
-returning window [] = 0
-returning window (p ∷ ps) = one (comes_back window p ps) + returning window ps
-
 found_is : (window : ℕ) (past string : List Key) → found_from window past string ≡ due window [] past string + returning window string
 found_is window past [] = sym (ap (λ n. n + 0) (due_end window [] past))
 found_is zero past (p ∷ ps) =
@@ -327,20 +311,6 @@ returning_is : (window : ℕ) (string : List Key) → returning window string �
 returning_is window [] = refl
 returning_is window (p ∷ ps) =
     (λ i. one (nat_lt (next_use p ps) window && nat_lt (next_use p ps) (sym (length_uses ps) i)) + returning_is window ps i)
-
--- what is counted of next uses: how many are so many, of all, or of those pages that are used again
-pub record IsAhead (counts : List ℕ) (string : List Key) : Type 0 where
-  pub size : length counts ≡ length string
-  pub within : (m : ℕ) → reaching m string + hits_within m counts ≡ length string
-
-pub record IsReturning (counts : List ℕ) (string : List Key) : Type 0 where
-  pub size : length counts ≡ length string
-  pub within : (m : ℕ) → returning m string ≡ hits_within m counts
-
--- each next use of a string is within what is left of it
-abbrev pub Inside : List ℕ → Type 0
-Inside [] = ⊤
-Inside (u ∷ us) = (u ≤ length us) × Inside us
 
 use_within : (p : Key) (ps : List Key) → next_use p ps ≤ length ps
 use_within p [] = omega arith

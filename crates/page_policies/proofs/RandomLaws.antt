@@ -1,4 +1,4 @@
--- Random replacement as its counter is seen, and what a page that is drawn leaves.
+-- What a page that is drawn leaves.
 use Rattle.std.specs.Prelude.{◌≡◌, ℕ, zero, suc, ◌+◌, ◌-◌, ◌%◌, ◌<◌, ◌≤◌, ◌||◌, Bool, true, false, cond, nat_lt, List, [], ◌∷◌, ◌++◌, length, take, slice_get, slice_set, slice_index_or, swap_remove, if◌then◌else◌, Option, Some, None, refl}
 use Rattle.std.specs.List.{list_any}
 use Rattle.indexmap.specs.IndexSet.{insert_key}
@@ -9,16 +9,12 @@ use Rattle.clock_policy.specs.declared.key.Key.{Key}
 use Rattle.page_policies.specs.Strings.{is_page, holds}
 use Rattle.page_policies.specs.Ordered.{last_of, but_last}
 use Rattle.page_policies.specs.Demand.{number, IsPlayed}
-use Rattle.page_policies.specs.NumberLaws.{less, most}
-use Rattle.page_policies.specs.PartLaws.{number_append, there_second, length_parts, length_but_last, last_split, hit_leaves, miss_leaves, Serves, served_plays}
-use Rattle.page_policies.specs.PlayedLaws.{here}
-use Rattle.page_policies.specs.CountLaws.{none_number}
-use Rattle.page_policies.specs.DemandLaws.{holds_none}
+use Rattle.page_policies.proofs.NumberLaws.{less, most}
+use Rattle.page_policies.proofs.PartLaws.{number_append, there_second, length_parts, length_but_last, last_split, hit_leaves, miss_leaves, Serves, served_plays}
+use Rattle.page_policies.proofs.PlayedLaws.{here}
+use Rattle.page_policies.proofs.CountLaws.{none_number}
+use Rattle.page_policies.proofs.DemandLaws.{holds_none}
 use Rattle.page_policies.specs.Random.{RandomState, left_at, place_of, drawn, room_drawn, joined, in_random, random, seeded, random_misses}
-use Rattle.page_policies.specs.declared.random_state.RandomPolicy.{RandomPolicy}
-
-abbrev pub pages_of : RandomPolicy → RandomState
-pages_of s = record { pages = s.pages.keys; generator = s.generator }
 
 pub any_holds : (p : Key) (s : List Key) → list_any (is_page p) s ≡ holds p s
 any_holds p [] = refl

@@ -3,16 +3,11 @@ use Rattle.std.specs.Prelude.{◌≡◌, ℕ, zero, suc, ◌+◌, ◌-◌, ◌<�
 use Rattle.std.proofs.Common.{arith, sym, ap, ◌∙◌}
 use Rattle.clock_policy.specs.declared.key.Key.{Key}
 use Rattle.page_policies.specs.Optimal.{optimal_misses}
-use Rattle.page_policies.specs.NumberLaws.{less, most}
+use Rattle.page_policies.proofs.NumberLaws.{less, most}
 use Rattle.whole_strings.specs.LruDepths.{hits_within}
-use Rattle.whole_strings.specs.LruDepthLaws.{length_new}
+use Rattle.whole_strings.proofs.LruDepthLaws.{length_new}
 use Rattle.whole_strings.specs.OptimumStack.{CountsOptimum}
-use Rattle.whole_strings.specs.OptimumCurve.{IsOptimumCurve}
-
--- the misses with 1, 2 and more frames, up to so many, from those with none and the hits at each depth
-pub record FallsTo (most references : ℕ) (counts curve : List ℕ) : Type 0 where
-  pub whole : length curve ≡ most
-  pub each : (m : ℕ) → m < most → slice_index_or curve m 0 ≡ references - hits_within (m + 1) counts
+use Rattle.whole_strings.specs.OptimumCurve.{IsOptimumCurve, FallsTo}
 
 pub falls_are : (most references : ℕ) (counts curve : List ℕ) (string : List Key) → references ≡ length string → CountsOptimum most counts string → FallsTo most references counts curve → IsOptimumCurve most curve string
 falls_are most references counts curve string long counted falls = record {

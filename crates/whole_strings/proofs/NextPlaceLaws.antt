@@ -8,7 +8,7 @@ use Rattle.std.specs.declared.cmp.Ordering.{Ordering}
 use Rattle.std.specs.Ordering.{nat_cmp, is_gt, match_ordering}
 use Rattle.std.specs.BTreeSet.{insert_key}
 use Rattle.std.specs.BTreeMap.Range.{IsLeBy, IsLtBy}
-use Rattle.page_policies.specs.NumberLaws.{yes_less, no_less}
+use Rattle.page_policies.proofs.NumberLaws.{yes_less, no_less}
 use Rattle.whole_strings.specs.NextPlaces.{under, Roomed}
 
 pub under_few : (t : ℕ) (xs : List ℕ) → under t xs ≤ length xs

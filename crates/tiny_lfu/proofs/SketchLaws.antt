@@ -1,11 +1,7 @@
--- The counter's sketch as its definition sees it.
+-- One of the sketch's counts is written: proofs.
 use Rattle.std.specs.Prelude.{◌≡◌, ℕ, zero, suc, ◌+◌, ◌==◌, true, false, cond, List, [], ◌∷◌, slice_index_or, slice_set, refl}
 use Rattle.std.proofs.Common.{ap}
-use Rattle.tiny_lfu.specs.Sketch.{SketchState, raised}
-use Rattle.tiny_lfu.specs.declared.sketch_state.Sketch.{Sketch}
-
-abbrev pub sketch_of : Sketch → SketchState
-sketch_of s = record { counts = s.counts.items; added = s.added }
+use Rattle.tiny_lfu.specs.Sketch.{raised}
 
 same_again : (at : ℕ) (counts : List ℕ) → slice_set counts at (slice_index_or counts at 0) ≡ counts
 same_again at [] = refl

@@ -1,13 +1,8 @@
 -- How an array of 32 words, whose first stays 0, stands for x1 to x31.
-use Rattle.std.specs.Prelude.{◌≡◌, ◌<◌, ℕ, zero, suc, ◌+◌, ◌%◌, ◌^◌, List, [], ◌∷◌, drop, length, slice_index, slice_set, refl}
-use Rattle.std.proofs.Common.{arith, ap, sym}
+use Rattle.std.specs.Prelude.{◌≡◌, ◌<◌, ℕ, zero, suc, ◌+◌, ◌%◌, ◌^◌, List, [], ◌∷◌, drop, slice_index, slice_set, refl}
+use Rattle.std.proofs.Common.{arith}
 use Rattle.rv_exec.specs.Registers.{Registers, register, with_register, with_pc, next_pc}
 use Rattle.rv_exec.specs.Line.{computed}
-
--- nothing but the first word is left out
-pub with_zero : (xs : List ℕ) → length xs ≡ 32 → slice_index xs 0 ≡ 0 → 0 ∷ drop 1 xs ≡ xs
-with_zero [] wide h = absurd (omega arith)
-with_zero (x ∷ xs) wide h = ap (λ y. y ∷ xs) (sym h)
 
 pub read_at : (pc : ℕ) (xs : List ℕ) (index : ℕ) → slice_index xs 0 ≡ 0 → slice_index xs index ≡ register (record { pc = pc; x = drop 1 xs }) index
 unfolding register

@@ -5,20 +5,12 @@ use Rattle.std.proofs.lemmas.Bool.Decides.{nat_tests}
 use Rattle.std.proofs.Math.Bool.{or-true}
 use Rattle.clock_policy.specs.declared.key.Key.{Key}
 use Rattle.clock_policy.specs.declared.entry.EntryKind.TheVariants.{Hot}
-use Rattle.clock_policy.specs.ClockPro.{is_hot}
 use Rattle.page_ring.specs.Linked.{Cell, is_at}
-use Rattle.page_ring.specs.LinkLaws.{at_self}
+use Rattle.page_ring.proofs.LinkLaws.{at_self}
 use Rattle.page_ring.specs.Chain.{of_kind}
 use Rattle.page_ring.specs.Index.{at_of}
 use Rattle.page_policies.specs.Strings.{is_page}
-use Rattle.page_policies.specs.SecondChance.{Slot, in_slots, touched, front_used, turned, one_gone, room_made}
-
-abbrev pub slot_of : Cell → Slot
-slot_of c = record { page = c.entry.key; used = is_hot c.entry.kind }
-
-abbrev pub slots_of : List Cell → List Slot
-slots_of [] = []
-slots_of (c ∷ cs) = slot_of c ∷ slots_of cs
+use Rattle.page_policies.specs.SecondChance.{Slot, in_slots, touched, front_used, turned, one_gone, room_made, slot_of, slots_of}
 
 pub slots-append : (a b : List Cell) → slots_of (a ++ b) ≡ slots_of a ++ slots_of b
 slots-append [] b = refl

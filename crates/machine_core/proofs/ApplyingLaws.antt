@@ -3,7 +3,7 @@ use Rattle.std.proofs.Common.{◌≡◌, ℕ, ◌+◌, ◌<◌, List, [], ◌∷
 use Rattle.std.proofs.lemmas.List.{take_more}
 use Rattle.machine_core.specs.declared.event.Event.{Event}
 use Rattle.machine_core.specs.declared.event.Reply.{Reply}
-use Rattle.machine_core.specs.Applying.{Applies, Runs, LeadsTo}
+use Rattle.machine_core.specs.Applying.{Applies, CutRun, Runs, LeadsTo}
 use Rattle.machine_core.specs.Machine.{CoreValue}
 
 module _ {S : Type 0} (held : S → List ℕ) (honest : Type 0) (failures : S → ℕ) where
@@ -40,17 +40,8 @@ module _ {S : Type 0} (held : S → List ℕ) (honest : Type 0) (failures : S �
       subst (λ l. Runs held honest failures l (replies ++ reply ∷ []) old new) (sym (take_more events i event small))
       (runs_more (take i events) replies old between new (get_or events i event) reply run applies)
 
-  -- a run that was cut in two
-  pub record CutRun (first second : List Event) (replies : List Reply) (old new : CoreValue S) : Type 0 where
-    pub replies-first : List Reply
-    pub replies-second : List Reply
-    pub between : CoreValue S
-    pub joined : replies ≡ replies-first ++ replies-second
-    pub before : Runs held honest failures first replies-first old between
-    pub after : Runs held honest failures second replies-second between new
-
   -- each prefix of a run is a run, and so is what is left
-  pub run_cut : (first second : List Event) (replies : List Reply) (old new : CoreValue S) → Runs held honest failures (first ++ second) replies old new → CutRun first second replies old new
+  pub run_cut : (first second : List Event) (replies : List Reply) (old new : CoreValue S) → Runs held honest failures (first ++ second) replies old new → CutRun held honest failures first second replies old new
   unfolding Runs
   run_cut [] second replies old new run = record { replies-first = []; replies-second = replies; between = old; joined = refl; before = refl; after = run }
   run_cut (e ∷ es) second [] old new run = absurd run

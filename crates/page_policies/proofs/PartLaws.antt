@@ -4,10 +4,10 @@ use Rattle.std.proofs.Common.{arith, sym, ap, subst, ◌∙◌}
 use Rattle.clock_policy.specs.declared.key.Key.{Key}
 use Rattle.page_policies.specs.Strings.{is_page, holds, without, misses}
 use Rattle.page_policies.specs.Ordered.{to_front, last_of, but_last}
-use Rattle.page_policies.specs.QueueLaws.{itself, same, absent}
+use Rattle.page_policies.proofs.QueueLaws.{itself, same, absent}
 use Rattle.page_policies.specs.Demand.{number, MayLeave, Plays}
-use Rattle.page_policies.specs.CountLaws.{none_number}
-use Rattle.page_policies.specs.PlayedLaws.{here, taken_number}
+use Rattle.page_policies.proofs.CountLaws.{none_number}
+use Rattle.page_policies.proofs.PlayedLaws.{here, taken_number}
 
 pub number_append : (test : Key → Bool) (a b : List Key) → number test (a ++ b) ≡ number test a + number test b
 number_append test [] b = omega arith

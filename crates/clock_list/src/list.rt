@@ -9,7 +9,7 @@ ghost use Rattle.clock_policy.specs.Bound.{answers_left, NothingResident};
 
 use crate::body::Body;
 use crate::scan::{kind_of, process_count};
-use clock_moves::{admit, answer, question, restore, withdraw};
+use clock_moves::{admit, answer, is_full, question, restore, withdraw};
 use clock_policy::{Bit, Clock, Entry, EntryKind, Key, Kind, NewRefusal, Refusal, Verdict};
 use machine_limits::{FEWEST_FRAMES, MOST_FRAMES};
 use std::alloc::{AllocError, Global};
@@ -73,15 +73,11 @@ impl Clock for ClockList {
         admit(&mut self.body, key)
     }
 
-    /// Never answers `NoMemory`.
-    fn restore(&mut self, key: Key) -> Result<(), Refusal>
-        ensures moved { self.new ≡ (restored key self.old).0 }
-        ensures exact { result ≡ (restored key self.old).1 }
-        ensures memory { result ≢ Err Refusal.NoMemory }
-        ensures err { OnErr result (self.new ≡ self.old) }
-        ensures frames { self.new.frames ≡ self.old.frames }
-        ensures lawful { Lawful self.new }
-    {
+    fn is_full(&self) -> bool {
+        is_full(&self.body)
+    }
+
+    fn restore(&mut self, key: Key) -> Result<(), Refusal> {
         restore(&mut self.body, key)
     }
 

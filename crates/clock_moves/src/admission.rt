@@ -11,7 +11,7 @@ use clock_policy::{Entry, EntryKind, Key, Kind, Refusal};
 
 /// Whether each frame has its page.
 #[inline(always)]
-pub(crate) fn is_full<L: HandedList>(list: &L) -> bool
+pub fn is_full<L: HandedList>(list: &L) -> bool
     ensures { result ≡ is_full (L.state list.now) }
 {
     list.resident_count() == list.frames()

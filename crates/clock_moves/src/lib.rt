@@ -8,7 +8,7 @@ mod handed_list;
 mod restoration;
 mod withdrawal;
 
-pub use admission::admit;
+pub use admission::{admit, is_full};
 pub use answering::{answer, question};
 pub use found::Found;
 pub use handed_list::HandedList;

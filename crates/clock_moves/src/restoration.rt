@@ -1,6 +1,6 @@
 //! A victim that could not leave its frame.
 
-ghost use Rattle.std.specs.Prelude.{◌≡◌, ◌≢◌, Err, None, OnErr};
+ghost use Rattle.std.specs.Prelude.{◌≡◌, None, OnErr};
 ghost use Rattle.clock_policy.specs.ClockPro.{kind_of};
 ghost use Rattle.clock_policy.specs.ClockPro.{new_restored, shadow_restored, restored};
 ghost use Rattle.clock_policy.specs.Lawful.{HasFewEntries};
@@ -16,7 +16,6 @@ fn restore_new<L: HandedList>(list: &mut L, key: Key) -> Result<(), Refusal>
     requires new { kind_of key (L.state list.old).entries ≡ None }
     ensures moved { L.state list.new ≡ (new_restored key (L.state list.old)).0 }
     ensures exact { result ≡ (new_restored key (L.state list.old)).1 }
-    ensures memory { result ≢ Err Refusal.NoMemory }
     ensures err { OnErr result (L.state list.new ≡ L.state list.old) }
 {
     if is_full(list) {
@@ -33,7 +32,6 @@ fn restore_shadow<L: HandedList>(list: &mut L, shadow: Found) -> Result<(), Refu
     requires { L.holds list.old shadow }
     ensures moved { L.state list.new ≡ (shadow_restored shadow.entry.key (L.state list.old)).0 }
     ensures exact { result ≡ (shadow_restored shadow.entry.key (L.state list.old)).1 }
-    ensures memory { result ≢ Err Refusal.NoMemory }
     ensures err { OnErr result (L.state list.new ≡ L.state list.old) }
 {
     if is_full(list) {
@@ -47,13 +45,12 @@ fn restore_shadow<L: HandedList>(list: &mut L, shadow: Found) -> Result<(), Refu
 ///
 /// # Errors
 ///
-/// `AlreadyResident`, or else `Full` where each frame has its page; then nothing has changed. Never `NoMemory`.
+/// `AlreadyResident`, or else `Full` where each frame has its page; then nothing has changed.
 #[tactic(auto, unfolding(clock_policy::specs::ClockPro::restored))]
 pub fn restore<L: HandedList>(list: &mut L, key: Key) -> Result<(), Refusal>
     requires { HasFewEntries (L.state list.old) }
     ensures moved { L.state list.new ≡ (restored key (L.state list.old)).0 }
     ensures exact { result ≡ (restored key (L.state list.old)).1 }
-    ensures memory { result ≢ Err Refusal.NoMemory }
     ensures err { OnErr result (L.state list.new ≡ L.state list.old) }
 {
     let Some(found) = list.find(key) else {

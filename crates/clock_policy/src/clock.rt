@@ -1,7 +1,7 @@
 //! The policy, as every representation of its list owes it.
 
 ghost use Rattle.std.specs.Prelude.{◌≡◌, ◌≢◌, ◌≤◌, ◌<◌, ◌+◌, ◌*◌, ◌++◌, ◌⊎◌, ℕ, IfOk, OnOk, OnErr, IsOk, IsErr, IsNone, ◌↔◌, Ok, Err, None, length, slice_get, option_map, vec_len, vec_capacity};
-ghost use Rattle.clock_policy.specs.ClockPro.{ClockState, opening_state, kind_of, question_of, answered, admitted, restored, withdrawn, purged, purge_count};
+ghost use Rattle.clock_policy.specs.ClockPro.{ClockState, opening_state, is_full, kind_of, question_of, answered, admitted, restored, withdrawn, purged, purge_count};
 ghost use Rattle.clock_policy.specs.FrameCounts.{least_frames, most_frames};
 ghost use Rattle.clock_policy.specs.Lawful.{Lawful};
 ghost use Rattle.clock_policy.specs.Bound.{answers_left, NothingResident};
@@ -15,7 +15,7 @@ use std::alloc::{AllocError, Global};
 /// A list of pages under CLOCK-Pro, which names the page that is to leave its frame.
 ///
 /// `state` is what the list stands for: each call is that of the definition on it, the refusals in the order of their numbers included.
-/// A refusal changes nothing. `NoMemory` may come from a representation that takes memory for a new entry, where the definition would
+/// A refusal changes nothing. `admit` may answer `NoMemory` where a representation takes memory for a new entry and the definition would
 /// refuse nothing: an entry that is there already never meets it.
 pub trait Clock: Drop {
     ghost state: { Self → ClockState };
@@ -65,13 +65,14 @@ pub trait Clock: Drop {
         ensures frames { (state self.new).frames ≡ (state self.old).frames }
         ensures lawful { Lawful (state self.new) };
 
+    /// Whether each frame has its page.
+    fn is_full(&self) -> bool
+        ensures { result ≡ is_full (state self.now) };
+
     /// Takes a victim back that could not leave its frame.
     fn restore(&mut self, key: Key) -> Result<(), Refusal>
-        ensures moved { OnOk result (state self.new ≡ (restored key (state self.old)).0) }
-        ensures exact { result ≢ Err Refusal.NoMemory → result ≡ (restored key (state self.old)).1 }
-        ensures memory { result ≡ Err Refusal.NoMemory → IsOk (restored key (state self.old)).1 }
-        ensures grows { result ≡ Err Refusal.NoMemory → kind_of key (state self.old).entries ≡
-            None }
+        ensures moved { state self.new ≡ (restored key (state self.old)).0 }
+        ensures exact { result ≡ (restored key (state self.old)).1 }
         ensures err { OnErr result (state self.new ≡ state self.old) }
         ensures frames { (state self.new).frames ≡ (state self.old).frames }
         ensures lawful { Lawful (state self.new) };

@@ -1,11 +1,11 @@
 //! The list as a circle of links.
 
 ghost use Rattle.std.specs.Prelude.{◌≡◌, ◌≢◌, OnErr, Err};
-ghost use Rattle.clock_policy.specs.ClockPro.{admitted, restored};
+ghost use Rattle.clock_policy.specs.ClockPro.{admitted};
 ghost use Rattle.clock_policy.specs.Lawful.{Lawful};
 
 use crate::body::Body;
-use clock_moves::{HandedList, admit, answer, question, restore, withdraw};
+use clock_moves::{HandedList, admit, answer, is_full, question, restore, withdraw};
 use clock_policy::{Bit, Clock, Entry, EntryKind, Key, Kind, NewRefusal, Refusal, Verdict};
 use machine_limits::{FEWEST_FRAMES, MOST_FRAMES};
 use std::alloc::{AllocError, Global};
@@ -71,15 +71,11 @@ impl Clock for ClockRing {
         admit(&mut self.body, key)
     }
 
-    /// Never answers `NoMemory`.
-    fn restore(&mut self, key: Key) -> Result<(), Refusal>
-        ensures moved { self.new ≡ (restored key self.old).0 }
-        ensures exact { result ≡ (restored key self.old).1 }
-        ensures memory { result ≢ Err Refusal.NoMemory }
-        ensures err { OnErr result (self.new ≡ self.old) }
-        ensures frames { self.new.frames ≡ self.old.frames }
-        ensures lawful { Lawful self.new }
-    {
+    fn is_full(&self) -> bool {
+        is_full(&self.body)
+    }
+
+    fn restore(&mut self, key: Key) -> Result<(), Refusal> {
         restore(&mut self.body, key)
     }
 

@@ -45,6 +45,8 @@ impl SwapSlot for LateSlot {
 
     ghost failures = { λ slot. slot.failures };
 
+    ghost called = { λ _ _. Unit {0} };
+
     ghost honest = { ⊤ };
 
     fn is_known_honest() -> bool

@@ -63,6 +63,10 @@ impl Clock for ScantList {
         self.ring.admit(key)
     }
 
+    fn is_full(&self) -> bool {
+        self.ring.is_full()
+    }
+
     fn restore(&mut self, key: Key) -> Result<(), Refusal> {
         self.ring.restore(key)
     }

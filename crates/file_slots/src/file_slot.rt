@@ -73,6 +73,8 @@ impl<F: Read + Write + Seek + Drop> SwapSlot for FileSlot<F> {
 
     ghost failures = { λ slot. slot.failures };
 
+    ghost called = { λ _ _. Unit {0} };
+
     ghost honest = { ⊥ };
 
     fn is_known_honest() -> bool

@@ -25,8 +25,7 @@ use Rattle.machine_sides.specs.declared.cleaning.CopyBar.{CopyBar}
 use Rattle.machine_sides.specs.declared.cleaning.Copying.{Copying}
 use Rattle.machine_sides.specs.declared.collecting.Looked.{Looked}
 use Rattle.machine_sides.specs.declared.collecting.Looked.TheVariants as look
-use Rattle.machine_sides.specs.declared.purging.Purging.{Purging}
-use Rattle.machine_sides.specs.declared.purging.Purging.TheVariants as purging
+use Rattle.machine_sides.specs.declared.purging.PurgeRefusal.{PurgeRefusal}
 use Rattle.machine_sides.specs.declared.saving_back.SaveOutcome.{SaveOutcome}
 use Rattle.machine_sides.specs.declared.saving_back.SaveOutcome.TheVariants as save
 use Rattle.machine_sides.specs.declared.sweeping.Swept.{Swept}
@@ -97,20 +96,17 @@ module _ {S : Type 0} where
   look_leaves vpn pager pager' old new slots slots' look.Freed h = by_memory old new h.drops.stays
   look_leaves vpn pager pager' old new slots slots' (look.Dirty job) h = by_memory old new h.saving.stays
   look_leaves vpn pager pager' old new slots slots' look.NoSlot h = by_memory old new h.returns.mapped.stays
-  look_leaves vpn pager pager' old new slots slots' (look.NotRestored reason) h = by_same old new h.leaves.stays
 
   pub save_leaves : (job : SavedValue S) (pager pager' : PagerSideValue) (old new : SpaceValue S) (outcome : SaveOutcome S)
       → EndsSave job pager pager' old new outcome → status_of new ≡ status_of old
   save_leaves job pager pager' old new save.Freed h = by_memory old new h.settles.stays
   save_leaves job pager pager' old new (save.WrongPage back) h = by_same old new h.process_stays
   save_leaves job pager pager' old new (save.ResidentAgain failure) h = by_memory h.between new h.returns.mapped.stays ∙ by_memory old h.between h.settles.stays
-  save_leaves job pager pager' old new (save.NotRestored failure reason) h = by_memory old new h.settles.stays
 
-  pub purge_leaves : (pager pager' : PagerSideValue) (old new : SpaceValue S) (slots slots' : PoolValue S) (outcome : Purging S)
-      → Purges pager pager' old new slots slots' outcome → status_of new ≡ status_of old
-  purge_leaves pager pager' old new slots slots' purging.Done h = by_both old new (ap (λ (s : SpaceValue S). s.schedule) h.is) (ap (λ (s : SpaceValue S). length s.running.environment.output) h.is)
-  purge_leaves pager pager' old new slots slots' (purging.Refused reason) h = by_same old new h.process_stays
-  purge_leaves pager pager' old new slots slots' (purging.HandedBack slot) h = by_memory old new h.stops.gave.stays
+  pub purge_leaves : (pager pager' : PagerSideValue) (old new : SpaceValue S) (slots slots' : PoolValue S) (result : Result (Unit {0}) PurgeRefusal)
+      → Purges pager pager' old new slots slots' result → status_of new ≡ status_of old
+  purge_leaves pager pager' old new slots slots' (Ok done) h = by_both old new (ap (λ (s : SpaceValue S). s.schedule) h.is) (ap (λ (s : SpaceValue S). length s.running.environment.output) h.is)
+  purge_leaves pager pager' old new slots slots' (Err reason) h = by_same old new h.process_stays
 
   pub load_leaves : (held : S → List ℕ) (honest : Type 0) (admission : AdmissionValue) (old new : SpaceValue S) → Loads held honest admission old new → status_of new ≡ status_of old
   load_leaves held honest admission old new h = by_memory old new h.stays

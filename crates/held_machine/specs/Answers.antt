@@ -5,11 +5,15 @@ use Rattle.held_machine.specs.DeskValue.{DeskValue}
 use Rattle.held_machine.specs.HeldValue.{HeldValue}
 
 module _ {S : Type 0} (number : ℕ) (desk desk' : DeskValue) (held held' : HeldValue S) where
-  -- the process is not the one of this number: no call was made, and the machine counts as unsound from then on
-  pub record IsOther : Type 0 where
-    pub other : held.side.memory.process ≢ number
+  -- no call was made, for this reason, and the machine counts as unsound from then on
+  pub record CallsNone (why : Type 0) : Type 0 where
+    pub reason : why
     pub desk_is : desk' ≡ record desk { sound = false }
     pub held_stays : held' ≡ held
+
+  -- the process is not the one of this number
+  abbrev pub IsOther : Type 0
+  IsOther = CallsNone (held.side.memory.process ≢ number)
 
   -- The process is the one of this number, and a call did this. It changed the pager and the process alone, beside the tries; and each
   -- page of the process on which list and process agreed they agree on still.

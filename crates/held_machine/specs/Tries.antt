@@ -11,10 +11,8 @@ look_failed look.NotYet = false
 look_failed look.Freed = false
 look_failed (look.Dirty job) = false
 look_failed look.NoSlot = true
-look_failed (look.NotRestored reason) = false
 
 abbrev pub save_failed : {S : Type 0} → SaveOutcome S → Bool
 save_failed save.Freed = false
 save_failed (save.WrongPage job) = false
 save_failed (save.ResidentAgain failure) = true
-save_failed (save.NotRestored failure reason) = false

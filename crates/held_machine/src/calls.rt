@@ -1,9 +1,10 @@
 //! The calls on a pager and a process, on what a process's lock holds.
 
-ghost use Rattle.std.specs.Prelude.{◌≡◌, None};
-ghost use Rattle.machine_sides.specs.Agreeing.{AgreeStill, AgreesPurged, AsksOf};
-ghost use Rattle.machine_sides.specs.Collecting.{Looks};
-ghost use Rattle.machine_sides.specs.Purging.{Purges};
+ghost use Rattle.std.specs.Prelude.{◌≡◌, None, true};
+ghost use Rattle.machine_sides.specs.Agreeing.{AgreeStill, AsksOf};
+ghost use Rattle.machine_sides.specs.Collecting.{is_leaving_at, Looks};
+ghost use Rattle.machine_sides.specs.Purging.{HasRoom, Purges};
+ghost use Rattle.machine_sides.specs.Returning.{CanReturn};
 ghost use Rattle.machine_sides.specs.SavingBack.{EndsSave};
 ghost use Rattle.machine_sides.specs.Sweeping.{Sweeps};
 ghost use Rattle.paged_memory.specs.Paged.{memory_of};
@@ -12,7 +13,7 @@ ghost use Rattle.held_machine.specs.Tries.{look_failed, save_failed};
 
 use crate::held::Held;
 use clock_policy::Clock;
-use machine_sides::{Looked, PagerSide, Purging, SaveOutcome, Swept};
+use machine_sides::{Looked, PagerSide, PurgeRefusal, SaveOutcome, Swept};
 use page_store::SavedJob;
 use std::sync::ledger::Ledger;
 use swap_slots::{SlotPool, SwapSlot};
@@ -39,6 +40,7 @@ pub fn collect<L: Ledger, S: SwapSlot, C: Clock>(
     vpn: u32,
     slots: &mut SlotPool<S>,
 ) -> Looked<S>
+    requires { is_leaving_at held.old.side vpn ≡ true → CanReturn vpn pager.old held.old.side }
     ensures looked { Looks vpn pager.old pager.new held.old.side held.new.side slots.old slots.new
         result }
     ensures agree { AgreeStill None pager.old.pager pager.new.pager held.old.side
@@ -65,6 +67,7 @@ pub fn saved<L: Ledger, S: SwapSlot, C: Clock>(
     held: &mut Held<L, S>,
     job: SavedJob<S>,
 ) -> SaveOutcome<S>
+    requires { CanReturn job.vpn pager.old held.old.side }
     ensures ends { EndsSave job pager.old pager.new held.old.side held.new.side result }
     ensures agree { AgreeStill None pager.old.pager pager.new.pager held.old.side
         held.new.side }
@@ -89,11 +92,12 @@ pub fn purge<L: Ledger, S: SwapSlot, C: Clock>(
     pager: &mut PagerSide<L, C>,
     held: &mut Held<L, S>,
     slots: &mut SlotPool<S>,
-) -> Purging<S>
+) -> Result<(), PurgeRefusal>
+    requires { HasRoom held.old.side slots.old }
     ensures purges { Purges pager.old pager.new held.old.side held.new.side slots.old slots.new
         result }
-    ensures agree { AgreesPurged pager.old.pager pager.new.pager held.old.side
-        held.new.side result }
+    ensures agree { AgreeStill None pager.old.pager pager.new.pager held.old.side
+        held.new.side }
     ensures held { held.new ≡ record held.old { side = held.new.side } }
 {
     machine_sides::purge(pager, &mut held.side, slots)

@@ -4,16 +4,15 @@ ghost use Rattle.std.specs.Prelude.{◌≡◌, ◌⊎◌, ◌↔◌, ◌<◌, �
 ghost use Rattle.std.specs.Prelude.{true, length, IfOk, IsErrOf};
 ghost use Rattle.paged_memory.specs.Paged.{memory_of};
 ghost use Rattle.pager_core.specs.Pager.{full_pager};
-ghost use Rattle.held_machine.specs.Expected.{is_memory, is_device};
-ghost use Rattle.held_machine.specs.Expected.{is_expected_look, is_expected_end};
-ghost use Rattle.held_machine.specs.Expected.{is_expected_purge};
+ghost use Rattle.held_machine.specs.Expected.{is_device, is_expected_end};
 
 use crate::calls;
 use crate::held::Held;
-use clock_policy::{Clock, Key, Refusal};
+use clock_policy::{Clock, Key};
 use frame_pool::PoolError;
 use machine_sides::{
-    Admission, Looked, NotAdmitted, PagerSide, Purging, SaveFailure, SaveOutcome, Swept,
+    Admission, Looked, NotAdmitted, PagerSide, PurgeRefusal, SaveFailure, SaveOutcome, Swept,
+    has_room, is_leaving,
 };
 use page_store::SavedJob;
 use std::alloc::Global;
@@ -111,8 +110,8 @@ impl<L: Ledger, C: Clock> Desk<L, C> {
         Some(calls::sweep(&mut self.pager, held))
     }
 
-    /// Looks whether a page of this process that is leaving can let its frame go.
-    #[tactic(auto, using(crate::proofs::Heeded::collected))]
+    /// Looks whether a page of this process that is leaving can let its frame go. No call is made where the list would not take it
+    /// back.
     pub fn collect<S: SwapSlot>(
         &mut self,
         held: &mut Held<L, S>,
@@ -128,12 +127,14 @@ impl<L: Ledger, C: Clock> Desk<L, C> {
             self.mark_unsound();
             return None;
         }
-        let looked = calls::collect(&mut self.pager, held, key.vpn, slots);
-        self.stay_sound_if(is_expected_look(&looked));
-        Some(looked)
+        if is_leaving(held.side(), key.vpn) && !self.pager.takes_back(key) {
+            self.mark_unsound();
+            return None;
+        }
+        Some(calls::collect(&mut self.pager, held, key.vpn, slots))
     }
 
-    /// Ends the save of a page of this process.
+    /// Ends the save of a page of this process. No call is made where the list would not take it back.
     #[tactic(auto, using(crate::proofs::Heeded::ended))]
     pub fn saved<S: SwapSlot>(
         &mut self,
@@ -145,6 +146,10 @@ impl<L: Ledger, C: Clock> Desk<L, C> {
             memory_of S.content held.old.side.memory }
     {
         if held.process() != job.process() {
+            self.mark_unsound();
+            return None;
+        }
+        if !self.pager.takes_back(job.key()) {
             self.mark_unsound();
             return None;
         }
@@ -184,22 +189,25 @@ impl<L: Ledger, C: Clock> Desk<L, C> {
         Ok(())
     }
 
-    /// The process of this number, which has ended, gives its frames and slots back, and the list forgets its pages.
+    /// The process of this number, which has ended, gives its frames and slots back, and the list forgets its pages. No call is made
+    /// where the pool has no room for its slots.
     pub fn purge<S: SwapSlot>(
         &mut self,
         held: &mut Held<L, S>,
         number: u32,
         slots: &mut SlotPool<S>,
-    ) -> Option<Purging<S>>
+    ) -> Option<Result<(), PurgeRefusal>>
         ensures { PurgesHeld number self.old self.new held.old held.new slots.old slots.new result }
     {
         if held.process() != number {
             self.mark_unsound();
             return None;
         }
-        let purging = calls::purge(&mut self.pager, held, slots);
-        self.stay_sound_if(is_expected_purge(&purging));
-        Some(purging)
+        if !has_room(held.side(), slots) {
+            self.mark_unsound();
+            return None;
+        }
+        Some(calls::purge(&mut self.pager, held, slots))
     }
 
     /// The machine stays sound only where this holds.
@@ -212,30 +220,11 @@ impl<L: Ledger, C: Clock> Desk<L, C> {
     }
 }
 
-/// Whether it is memory that is wanting.
-fn is_memory(refusal: Refusal) -> bool
-    ensures { result ≡ is_memory refusal }
-{
-    matches!(refusal, Refusal::NoMemory)
-}
-
 /// Whether it is the device that failed.
 fn is_device(failure: SaveFailure) -> bool
     ensures { result ≡ is_device failure }
 {
     matches!(failure, SaveFailure::Device)
-}
-
-/// Whether an event of the machine gives this answer of a look.
-fn is_expected_look<S: SwapSlot>(looked: &Looked<S>) -> bool
-    ensures { result ≡ is_expected_look looked.now }
-{
-    match looked {
-        Looked::NotRestored(refusal) => is_memory(*refusal),
-        Looked::NotLeaving | Looked::NotYet | Looked::Freed | Looked::Dirty(_) | Looked::NoSlot => {
-            true
-        }
-    }
 }
 
 /// Whether an event of the machine gives this end of a save.
@@ -246,15 +235,5 @@ fn is_expected_end<S: SwapSlot>(outcome: &SaveOutcome<S>) -> bool
         SaveOutcome::Freed => true,
         SaveOutcome::WrongPage(_) => false,
         SaveOutcome::ResidentAgain(failure) => is_device(*failure),
-        SaveOutcome::NotRestored { failure, refusal } => {
-            is_device(*failure) && is_memory(*refusal)
-        }
     }
-}
-
-/// Whether an event of the machine gives this answer of a purge.
-fn is_expected_purge<S: SwapSlot>(purging: &Purging<S>) -> bool
-    ensures { result ≡ is_expected_purge purging.now }
-{
-    !matches!(purging, Purging::HandedBack(_))
 }

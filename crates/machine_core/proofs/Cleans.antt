@@ -7,7 +7,8 @@ use Rattle.page_store.specs.JobValue.{JobValue}
 use Rattle.paged_memory.proofs.access_laws.AlikeLaws.{CountsAlike, same_memory}
 use Rattle.paged_memory.specs.cleaning.Cleaning.{refused_of}
 use Rattle.swap_slots.specs.PoolValue.{PoolValue}
-use Rattle.machine_core.specs.CleaningEvents.{clean_barred, clean_reason, clean_refusal, clean_reply, CleansAt, CleansOnce}
+use Rattle.machine_core.specs.CleaningEvents.{clean_barred, clean_reason, clean_refusal, CleansOnce}
+use Rattle.machine_core.specs.CleaningSteps.{clean_reply, CleansAt}
 use Rattle.machine_core.specs.Machine.{CoreValue, IsMachine}
 use Rattle.machine_core.specs.MachineRun.{of_process, RefusesEvent}
 use Rattle.machine_core.proofs.TotalLaws.{set_back}

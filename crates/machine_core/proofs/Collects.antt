@@ -1,11 +1,9 @@
 -- The machine stays one by a look at a page, and what that comes to.
-use Rattle.std.proofs.Common.{◌≡◌, ℕ, ◌+◌, ◌<◌, ◌^◌, Bool, true, false, cond, take, drop, List, [], ◌∷◌, ◌++◌, length, length-append, Some, None, slice_get, refl, sym, ap, ◌∙◌, arith, subst}
-use Rattle.std.specs.Prelude.{slice_set, All, if◌then◌else◌}
+use Rattle.std.proofs.Common.{◌≡◌, ℕ, ◌+◌, ◌<◌, ◌^◌, Bool, true, false, cond, take, drop, List, [], ◌∷◌, ◌++◌, length, length-append, Option, Some, None, slice_get, refl, sym, ap, ◌∙◌, arith, subst}
+use Rattle.std.specs.Prelude.{slice_set, All, IfSome, if◌then◌else◌}
 use Rattle.std.proofs.lemmas.List.{length-set}
 use Rattle.std.proofs.lemmas.List.Elements.{All-nil, All-cons, All-append}
 use Rattle.clock_policy.specs.declared.key.Key.{Key}
-use Rattle.clock_policy.specs.declared.refusal.Refusal.{Refusal}
-use Rattle.clock_policy.specs.declared.refusal.Refusal.TheVariants as list
 use Rattle.clock_policy.proofs.AdmitLaws.{one_key}
 use Rattle.clock_policy.specs.Lawful.{Lawful}
 use Rattle.page_store.specs.JobValue.{JobValue}
@@ -16,11 +14,13 @@ use Rattle.paged_memory.specs.Whole.{stage_in, frame_in}
 use Rattle.space_core.specs.StandsFor.{SpaceValue}
 use Rattle.swap_slots.specs.PoolValue.{PoolValue}
 use Rattle.machine_sides.specs.declared.collecting.Looked.{Looked}
-use Rattle.machine_sides.specs.declared.collecting.Looked.TheVariants.{NotLeaving, NotYet, Freed, Dirty, NoSlot, NotRestored}
+use Rattle.machine_sides.specs.declared.collecting.Looked.TheVariants.{NotLeaving, NotYet, Freed, Dirty, NoSlot}
 use Rattle.machine_core.specs.declared.error.EventRefusal.TheVariants as refusal
 use Rattle.machine_core.specs.declared.event.Reply.{Reply}
-use Rattle.machine_sides.specs.Collecting.{is_leaving_at, Looks, IsDropped, IsCopied, LacksAndReturns, LacksAndLeaves}
-use Rattle.machine_core.specs.CollectEvent.{leaving_reason, collect_refusal, CollectsTo, not_yet, freed, dirty, no_slot, no_memory, CollectsOnce, LooksAt, IsOwn, jobs_after, looked_reply}
+use Rattle.machine_sides.specs.Collecting.{is_leaving_at, Looks, IsDropped, IsCopied, LacksAndReturns}
+use Rattle.machine_sides.specs.Returning.{CanReturn}
+use Rattle.machine_core.specs.CollectEvent.{leaving_reason, collect_refusal, CollectsTo, not_yet, freed, dirty, no_slot, CollectsOnce}
+use Rattle.machine_core.specs.CollectSteps.{CanReturnAt, LooksAt, IsOwn, jobs_after, looked_reply}
 use Rattle.machine_sides.proofs.CollectLaws.{dropped_together, dropped_rest, copied_together, copied_savings, copied_slots, copied_now}
 use Rattle.machine_sides.proofs.LookLaws.{same_sides}
 use Rattle.machine_core.specs.Machine.{CoreValue, IsMachine, IsSaveOut, IsCopyOut, jobs_where, total}
@@ -31,17 +31,9 @@ use Rattle.machine_sides.proofs.StageLaws.{stage_passes}
 use Rattle.machine_sides.proofs.TogetherLaws.{LeavesRest}
 use Rattle.machine_sides.specs.Together.{Together, key_of}
 use Rattle.machine_core.proofs.Cores.{lent_back}
-use Rattle.machine_core.proofs.Counted.{HoldsFrame, job_fits, takes_back}
+use Rattle.machine_core.proofs.Counted.{HoldsFrame, job_fits, can_return}
 use Rattle.machine_core.proofs.Kept.{Moves, moved_machine, out_stays, copies_stay, copies_even}
 use Rattle.machine_core.proofs.TotalLaws.{get_set_same}
-
--- a refusal that can be no other is want of memory
-only_memory : (reason : Refusal) → ((reason ≡ list.NoMemory → ⊥) → ⊥) → reason ≡ list.NoMemory
-only_memory list.AlreadyResident h = absurd (h (λ e. cc))
-only_memory list.NoQuestion h = absurd (h (λ e. cc))
-only_memory list.NotThere h = absurd (h (λ e. cc))
-only_memory list.Full h = absurd (h (λ e. cc))
-only_memory list.NoMemory h = refl
 
 module _ {S : Type 0} where
   -- ---- a page that is leaving holds a frame, and is neither resident nor being saved
@@ -164,7 +156,6 @@ module _ {S : Type 0} where
       looked_moves Freed how own jobs copies = dropped_moves how jobs copies
       looked_moves (Dirty job) how own jobs copies = copied_moves job how jobs copies
       looked_moves NoSlot how own jobs copies = returned_moves how jobs copies
-      looked_moves (NotRestored reason) how own jobs copies = stays_moves how.leaves.unlisted.stays how.leaves.stays how.slots_stay jobs copies
 
       -- and what it comes to
       pub looked_to : (looked : Looked S) (answer : Reply) → Looks vpn core.pager core'.pager q q' core.slots core'.slots looked → IsOwn looked → core'.jobs ≡ jobs_after looked core.jobs → answer ≡ looked_reply looked → CollectsTo vpn core core' q q' answer
@@ -173,7 +164,6 @@ module _ {S : Type 0} where
       looked_to Freed answer how own jobs is = freed how jobs is
       looked_to (Dirty job) answer how own jobs is = dirty job how jobs is
       looked_to NoSlot answer how own jobs is = no_slot how jobs is
-      looked_to (NotRestored reason) answer how own jobs is = no_memory (subst (LacksAndLeaves vpn core.pager core'.pager q q' core.slots core'.slots) own how) jobs is
 
   -- ---- what a look comes to in the machine
 
@@ -187,7 +177,6 @@ module _ {S : Type 0} where
     looked_own pager' slots' Freed how = tt
     looked_own pager' slots' (Dirty job) how = tt
     looked_own pager' slots' NoSlot how = tt
-    looked_own pager' slots' (NotRestored reason) how = only_memory reason (λ apart. takes_back core p q vpn machine found holds reason (how.leaves.unlisted.why apart))
 
     -- a save of the page has room
     pub looked_room : length core.jobs < core.pager.pager.size
@@ -201,6 +190,18 @@ module _ {S : Type 0} where
       by_answer : (b : Bool) → (if b then None else Some refusal.NotLeaving) ≡ None → b ≡ true
       by_answer true h = refl
       by_answer false h = cc
+
+  -- the list takes the page back
+  pub can_return_at : (pager : PagerSideValue) (slots : PoolValue S) (jobs copies : List (JobValue S)) (items lent : List (SpaceValue S)) (key : Key)
+      → IsMachine (record { pager = pager; slots = slots; processes = items; jobs = jobs; copies = copies }) → collect_refusal key items ≡ None → lent ≡ items → CanReturnAt key.process key.vpn pager lent
+  can_return_at pager slots jobs copies items lent key machine allowed same =
+      subst (λ l. CanReturnAt key.process key.vpn pager l) (sym same) (by_found (slice_get items key.process) refl)
+    where
+      by_found : (o : Option (SpaceValue S)) → slice_get items key.process ≡ o → IfSome o (CanReturn key.vpn pager)
+      by_found None is = tt
+      by_found (Some q) is =
+          can_return (record { pager = pager; slots = slots; processes = items; jobs = jobs; copies = copies }) key.process q key.vpn machine is
+          (leaving_holds q key.vpn (allowed_leaving key.vpn q (ap (of_process (leaving_reason key.vpn)) (sym is) ∙ allowed)))
 
   module _ (held : S → List ℕ) (honest : Type 0) (pager pager' : PagerSideValue) (slots slots' : PoolValue S) (jobs copies : List (JobValue S)) (items lent new : List (SpaceValue S)) (n : ℕ) (key : Key) (looked : Looked S)
       (machine : IsMachine (record { pager = pager; slots = slots; processes = items; jobs = jobs; copies = copies })) (allowed : collect_refusal key items ≡ None)

@@ -18,7 +18,8 @@ use Rattle.paged_memory.specs.Coheres.{HoldsIn}
 use Rattle.paged_memory.specs.cleaning.Copies.{CopyStands, is_copied_in}
 use Rattle.space_core.specs.StandsFor.{SpaceValue}
 use Rattle.swap_slots.specs.PoolValue.{PoolValue}
-use Rattle.machine_core.specs.CleaningEvents.{cleaned_refusal, unless_out, CleanedOnce, CopyBackAt, IsOwnCopy, RepliesBack}
+use Rattle.machine_core.specs.CleaningEvents.{cleaned_refusal, unless_out, CleanedOnce, RepliesBack}
+use Rattle.machine_core.specs.CleaningSteps.{CopyBackAt, IsOwnCopy}
 use Rattle.machine_core.specs.Machine.{CoreValue, IsMachine, IsCopyOut, total, jobs_where}
 use Rattle.machine_core.specs.MachineRun.{of_process}
 use Rattle.machine_core.specs.SavingOut.{is_save_of, MakesSave}

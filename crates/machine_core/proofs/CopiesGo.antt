@@ -12,7 +12,8 @@ use Rattle.paged_memory.proofs.cleaning_laws.CleanBarLaws.{goes_keeps}
 use Rattle.paged_memory.specs.cleaning.Cleaning.{refused_of, is_cleaning_in}
 use Rattle.paged_memory.specs.cleaning.Copies.{CopyStands}
 use Rattle.swap_slots.specs.PoolValue.{PoolValue}
-use Rattle.machine_core.specs.CleaningEvents.{copy_barred, copy_reason, copy_refusal, copy_reply, copies_after, CopiesAt, CopiesOnce, CopiesTo, stored, not_yet, no_slot, copied, IfCopies}
+use Rattle.machine_core.specs.CleaningEvents.{copy_barred, copy_reason, copy_refusal, CopiesOnce, CopiesTo, stored, not_yet, no_slot, copied}
+use Rattle.machine_core.specs.CleaningSteps.{copy_reply, copies_after, CopiesAt, IfCopies}
 use Rattle.machine_core.specs.Machine.{CoreValue, IsMachine, IsCopyOut, jobs_where}
 use Rattle.machine_core.specs.MachineRun.{of_process, RefusesEvent}
 use Rattle.machine_core.proofs.TotalLaws.{set_back, get_set_same}

@@ -1,5 +1,6 @@
 -- What the machine's counts tell of a page that holds a frame and is not resident: a frame is missing, a save has room, and the list takes the page back.
-use Rattle.std.proofs.Common.{◌≡◌, ℕ, zero, suc, ◌+◌, ◌≤◌, ◌<◌, ◌^◌, true, false, cond, List, [], ◌∷◌, length, Some, Err, slice_get, inl, inr, refl, sym, ap, ◌∙◌, arith}
+use Rattle.std.proofs.Common.{◌≡◌, ℕ, zero, suc, ◌+◌, ◌≤◌, ◌<◌, ◌^◌, true, false, cond, List, [], ◌∷◌, length, Some, Ok, Err, Result, slice_get, inl, inr, refl, sym, ap, ◌∙◌, arith}
+use Rattle.std.specs.Prelude.{is_ok}
 use Rattle.clock_policy.specs.declared.refusal.Refusal.{Refusal}
 use Rattle.clock_policy.proofs.AdmitLaws.{restored_barred, key_residents}
 use Rattle.clock_policy.specs.ClockPro.{restored}
@@ -11,6 +12,8 @@ use Rattle.paged_memory.proofs.cleaning_laws.CleanBarLaws.{copies_framed as copi
 use Rattle.paged_memory.specs.cleaning.Cleaning.{is_cleaning_in}
 use Rattle.paged_memory.specs.moves.Stages.{is_resident_stage, is_saving_stage, has_frame_stage}
 use Rattle.paged_memory.specs.Whole.{stage_in}
+use Rattle.pager_core.specs.Pager.{takes_back}
+use Rattle.machine_sides.specs.Returning.{CanReturn}
 use Rattle.space_core.specs.StandsFor.{SpaceValue}
 use Rattle.machine_core.specs.Machine.{CoreValue, IsMachine, total, numbers_below, jobs_where}
 use Rattle.machine_sides.specs.Together.{residents_in, savings_in, copies_in, frames_in, frames_where, key_of}
@@ -111,14 +114,22 @@ module _ {S : Type 0} where
         let no = holds.apart in
         cc
 
-    -- so it takes the page back
-    pub takes_back : (refusal : Refusal) → (restored (key_of q.memory.process vpn) core.pager.pager.list).1 ≡ Err refusal → ⊥
-    takes_back refusal why =
+    barred : (refusal : Refusal) → (restored (key_of q.memory.process vpn) core.pager.pager.list).1 ≡ Err refusal → ⊥
+    barred refusal why =
         let number = machine.numbered p q found in
         elim (restored_barred (key_of p vpn) core.pager.pager.list refusal (ap (λ n. (restored (key_of n vpn) core.pager.pager.list).1) (sym number) ∙ why)) [
           | inl listed ↦ not_listed number listed.1
           | inr full ↦ not_full full.2
         ]
+
+    answered : (answer : Result (Unit {0}) Refusal) → (restored (key_of q.memory.process vpn) core.pager.pager.list).1 ≡ answer → is_ok answer ≡ true
+    answered (Ok done) is = refl
+    answered (Err refusal) is = absurd (barred refusal is)
+
+    -- so it takes the page back
+    pub can_return : CanReturn vpn core.pager q
+    unfolding takes_back
+    can_return = answered (restored (key_of q.memory.process vpn) core.pager.pager.list).1 refl
 
   -- ---- a page of which a copy is out holds a frame
 

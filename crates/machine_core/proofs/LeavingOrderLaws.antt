@@ -2,14 +2,12 @@
 use Rattle.std.proofs.Common.{◌≡◌, ℕ, List, inl, inr, refl, sym, ap, ◌∙◌}
 use Rattle.clock_policy.specs.declared.key.Key.{Key}
 use Rattle.machine_core.proofs.OrderLaws.{SameOrder, same_beside, same_purged, same_all, same_beside, then_same, Tells, quiet_tells}
-use Rattle.machine_core.specs.CollectEvent.{CollectsTo, not_yet, freed, dirty, no_slot, no_memory, CollectsOnce}
+use Rattle.machine_core.specs.CollectEvent.{CollectsTo, not_yet, freed, dirty, no_slot, CollectsOnce}
 use Rattle.machine_core.specs.Machine.{CoreValue}
 use Rattle.machine_core.specs.PurgeEvent.{PurgesOnce}
 use Rattle.machine_core.specs.SavingOut.{SavesOnce}
-use Rattle.machine_core.specs.declared.error.EventRefusal.TheVariants as refusal
 use Rattle.machine_core.specs.declared.event.Event.TheVariants.{Collect, Saved, Purge}
 use Rattle.machine_core.specs.declared.event.Reply.{Reply}
-use Rattle.machine_core.specs.declared.event.Reply.TheVariants.{Refused}
 use Rattle.machine_core.specs.declared.event.Reply.TheVariants as reply
 use Rattle.space_core.specs.StandsFor.{SpaceValue}
 
@@ -36,10 +34,6 @@ module _ {S : Type 0} where
     same = same_beside process process' how.returns.mapped.stays;
     no_victim = λ k is. let e : reply.NoSlot ≡ reply.Victim k = sym told ∙ is in cc;
   }
-  collected_quiet vpn old new process process' answer (no_memory how jobs told) = record {
-    same = same_all process process' (ap (λ (p : SpaceValue S). p) how.leaves.stays);
-    no_victim = λ k is. let e : Refused refusal.NoMemory ≡ reply.Victim k = sym told ∙ is in cc;
-  }
 
   pub collect_tells : (held : S → List ℕ) (honest : Type 0) (key : Key) (old new : CoreValue S) (answer : Reply) → CollectsOnce held honest key old new answer → Tells (Collect key) answer old new
   collect_tells held honest key old new answer once =
@@ -52,18 +46,12 @@ module _ {S : Type 0} where
       quiet_tells (Saved key) old new answer key.process once.process once.process' once.found once.processes
       (elim once.ends [
         | inl passed ↦ same_beside once.process once.process' passed.0.settles.stays
-        | inr failed ↦ elim failed [
-          | inl back ↦ then_same once.process back.0.between once.process' (same_beside once.process back.0.between back.0.settles.stays) (same_beside back.0.between once.process' back.0.returns.mapped.stays)
-          | inr left ↦ same_beside once.process once.process' left.0.settles.stays
-        ]
+        | inr back ↦ then_same once.process back.0.between once.process' (same_beside once.process back.0.between back.0.settles.stays) (same_beside back.0.between once.process' back.0.returns.mapped.stays)
       ])
       (λ _. refl)
       (λ k is. elim once.ends [
         | inl passed ↦ let e : reply.Freed ≡ reply.Victim k = sym passed.1 ∙ is in cc
-        | inr failed ↦ elim failed [
-          | inl back ↦ let e : reply.Device ≡ reply.Victim k = sym back.1 ∙ is in cc
-          | inr left ↦ let e : Refused refusal.NoMemory ≡ reply.Victim k = sym left.1 ∙ is in cc
-        ]
+        | inr back ↦ let e : reply.Device ≡ reply.Victim k = sym back.1 ∙ is in cc
       ])
 
   -- an ended process that gives everything back

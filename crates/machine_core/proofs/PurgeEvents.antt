@@ -1,8 +1,8 @@
 -- The machine stays one where an ended process gives everything back, and all of it has its place.
-use Rattle.std.proofs.Common.{◌≡◌, ℕ, zero, suc, ◌++◌, ◌==◌, ◌&&◌, Bool, true, false, take, drop, List, [], ◌∷◌, length, Option, Some, None, option_map, slice_get, inl, inr, refl, sym, ap, ◌∙◌, arith, subst}
-use Rattle.std.specs.Prelude.{slice_set}
+use Rattle.std.proofs.Common.{◌≡◌, ℕ, zero, suc, ◌+◌, ◌≤◌, ◌++◌, ◌==◌, ◌&&◌, Bool, true, false, take, drop, List, [], ◌∷◌, length, Result, Ok, Err, Option, Some, None, option_map, slice_get, inl, inr, refl, sym, ap, ◌∙◌, arith, subst}
+use Rattle.std.specs.Prelude.{slice_set, IfSome}
 use Rattle.std.proofs.lemmas.Bool.Decides.{eqb_tells}
-use Rattle.std.proofs.lemmas.List.{length-append, length-set}
+use Rattle.std.proofs.lemmas.List.{length-set}
 use Rattle.clock_policy.specs.declared.key.Key.{Key}
 use Rattle.clock_policy.proofs.ClockLaws.{purged_lawful}
 use Rattle.clock_policy.specs.ClockPro.{purged}
@@ -19,13 +19,12 @@ use Rattle.swap_slots.specs.PoolValue.{PoolValue}
 use Rattle.machine_core.specs.declared.event.Reply.{Reply}
 use Rattle.machine_core.specs.declared.event.Reply.TheVariants.{Purged}
 use Rattle.machine_sides.specs.declared.purging.PurgeRefusal.{PurgeRefusal}
-use Rattle.machine_sides.specs.declared.purging.Purging.{Purging}
-use Rattle.machine_sides.specs.declared.purging.Purging.TheVariants.{Done, Refused, HandedBack}
 use Rattle.machine_core.specs.Machine.{CoreValue, IsMachine, total}
 use Rattle.machine_core.specs.MachineRun.{of_process}
-use Rattle.machine_core.specs.PurgeEvent.{purge_reason, purge_refusal, PurgesAt, PurgesOnce}
+use Rattle.machine_core.specs.PurgeEvent.{purge_reason, purge_refusal, PurgesOnce}
+use Rattle.machine_core.specs.PurgeSteps.{HasRoomAt, PurgesAt}
 use Rattle.machine_sides.proofs.PurgeLaws.{given_savings, given_stays, given_copies, purged_together, purged_pool}
-use Rattle.machine_sides.specs.Purging.{purge_bars, Purges, PurgesAll, StopsPurging}
+use Rattle.machine_sides.specs.Purging.{purge_bars, HasRoom, Purges, PurgesAll}
 use Rattle.machine_sides.specs.Sides.{PagerSideValue}
 use Rattle.machine_sides.specs.Together.{residents_in, frames_in, key_of}
 use Rattle.machine_core.proofs.Cores.{lent_back}
@@ -82,23 +81,24 @@ module _ {S : Type 0} where
 
   -- ---- everything has its place
 
-  no_slot_back : (core : CoreValue S) (pager' : PagerSideValue) (pool' : PoolValue S) (p : ℕ) (q q' : SpaceValue S) (slot : S) → IsMachine core → slice_get core.processes p ≡ Some q
-      → StopsPurging slot core.pager pager' q q' core.slots pool' → ⊥
-  no_slot_back core pager' pool' p q q' slot machine found stops =
-      let gave = stops.stops.gave in
-      let full : length pool'.free ≡ pool'.size = stops.stops.full in
-      let free : length pool'.free ≡ length (core.slots.free ++ gave.slots) = ap (λ (s : PoolValue S). length s.free) gave.pool_is in
-      let size : pool'.size ≡ core.slots.size = ap (λ (s : PoolValue S). s.size) gave.pool_is in
-      let slotted = gave.slotted in
+  has_room : (core : CoreValue S) (p : ℕ) (q : SpaceValue S) → IsMachine core → slice_get core.processes p ≡ Some q → length core.slots.free + slots_within q.memory ≤ core.slots.size
+  has_room core p q machine found =
       let all = machine.slotted in
       let part = total_at (λ (r : SpaceValue S). slots_within r.memory) core.processes p q found in
-      omega (arith, full, free, size, slotted, all, part, length-append core.slots.free gave.slots)
+      omega (arith, all, part)
 
-  purges_all : (core : CoreValue S) (pager' : PagerSideValue) (pool' : PoolValue S) (p : ℕ) (q q' : SpaceValue S) (result : Purging S) → IsMachine core → slice_get core.processes p ≡ Some q
-      → purge_bars q ≡ None → Purges core.pager pager' q q' core.slots pool' result → PurgesAll core.pager pager' q q' core.slots pool'
-  purges_all core pager' pool' p q q' Done machine found allowed how = how
-  purges_all core pager' pool' p q q' (Refused reason) machine found allowed how = let why = how.why in cc
-  purges_all core pager' pool' p q q' (HandedBack slot) machine found allowed how = absurd (no_slot_back core pager' pool' p q q' slot machine found how)
+  pub has_room_at : (pager : PagerSideValue) (slots : PoolValue S) (jobs copies : List (JobValue S)) (items lent : List (SpaceValue S)) (number : ℕ)
+      → IsMachine (record { pager = pager; slots = slots; processes = items; jobs = jobs; copies = copies }) → lent ≡ items → HasRoomAt number lent slots
+  has_room_at pager slots jobs copies items lent number machine same =
+      subst (λ l. HasRoomAt number l slots) (sym same) (by_found (slice_get items number) refl)
+    where
+      by_found : (o : Option (SpaceValue S)) → slice_get items number ≡ o → IfSome o (λ (process : SpaceValue S). HasRoom process slots)
+      by_found None is = tt
+      by_found (Some q) is = has_room (record { pager = pager; slots = slots; processes = items; jobs = jobs; copies = copies }) number q machine is
+
+  purges_all : (core : CoreValue S) (pager' : PagerSideValue) (pool' : PoolValue S) (q q' : SpaceValue S) (result : Result (Unit {0}) PurgeRefusal) → purge_bars q ≡ None → Purges core.pager pager' q q' core.slots pool' result → PurgesAll core.pager pager' q q' core.slots pool'
+  purges_all core pager' pool' q q' (Ok done) allowed how = how
+  purges_all core pager' pool' q q' (Err reason) allowed how = let why = how.why in cc
 
   -- ---- the machine stays one
 
@@ -127,7 +127,7 @@ module _ {S : Type 0} where
       none None h = refl
       none (Some reason) h = cc
 
-  module _ (pager pager' : PagerSideValue) (pool pool' : PoolValue S) (jobs copies : List (JobValue S)) (items lent new : List (SpaceValue S)) (n p : ℕ) (result : Purging S)
+  module _ (pager pager' : PagerSideValue) (pool pool' : PoolValue S) (jobs copies : List (JobValue S)) (items lent new : List (SpaceValue S)) (n p : ℕ) (result : Result (Unit {0}) PurgeRefusal)
       (machine : IsMachine (record { pager = pager; slots = pool; processes = items; jobs = jobs; copies = copies })) (allowed : purge_refusal p items ≡ None)
       (long : n ≡ length items) (same : lent ≡ items) (purges : PurgesAt pager pager' p lent new pool pool' result) where
     abbrev core : CoreValue S
@@ -145,7 +145,7 @@ module _ {S : Type 0} where
         sym is ∙ sym (lent_back items new n long (ap length is ∙ length-set items p purges.process'))
 
     told : PurgesAll pager pager' purges.process purges.process' pool pool'
-    told = purges_all core pager' pool' p purges.process purges.process' result machine found (unbarred_at items p purges.process allowed found) purges.how
+    told = purges_all core pager' pool' purges.process purges.process' result (unbarred_at items p purges.process allowed found) purges.how
 
     pub purged_back : IsMachine left
     purged_back = subst (λ l. IsMachine (record { pager = pager'; slots = pool'; processes = l; jobs = jobs; copies = copies })) is_set (purged_machine core pager' pool' p purges.process purges.process' machine found told)

@@ -1,13 +1,11 @@
 -- A save that was out comes back: its end is one that the machine answers, and the machine stays one.
-use Rattle.std.proofs.Common.{◌≡◌, ℕ, zero, suc, ◌+◌, ◌≤◌, ◌<◌, ◌^◌, Bool, true, false, cond, List, [], ◌∷◌, length, Some, None, slice_get, take, drop, ◌++◌, inl, inr, refl, sym, ap, ◌∙◌, arith, subst}
-use Rattle.std.specs.Prelude.{slice_set, All}
+use Rattle.std.proofs.Common.{◌≡◌, ℕ, zero, suc, ◌+◌, ◌≤◌, ◌<◌, ◌^◌, Bool, true, false, cond, List, [], ◌∷◌, length, Option, Some, None, slice_get, take, drop, ◌++◌, inl, inr, refl, sym, ap, ◌∙◌, arith, subst}
+use Rattle.std.specs.Prelude.{slice_set, All, IfSome}
 use Rattle.std.proofs.lemmas.Bool.Decides.{eqb_tells}
 use Rattle.std.proofs.lemmas.List.{length-set}
 use Rattle.std.proofs.lemmas.List.Elements.{All-nil, All-cons, All-head, All-tail}
 use Rattle.std.proofs.lemmas.List.Sorted.{All-permutation, length_permutation}
 use Rattle.clock_policy.specs.declared.key.Key.{Key}
-use Rattle.clock_policy.specs.declared.refusal.Refusal.{Refusal}
-use Rattle.clock_policy.specs.declared.refusal.Refusal.TheVariants.{AlreadyResident, NoQuestion, NotThere, Full, NoMemory}
 use Rattle.clock_policy.proofs.AdmitLaws.{one_key}
 use Rattle.clock_policy.specs.Residents.{is_key}
 use Rattle.frame_pool.specs.FrameValue.{FrameValue}
@@ -22,17 +20,19 @@ use Rattle.machine_core.specs.declared.event.Reply.{Reply}
 use Rattle.machine_sides.specs.declared.saving_back.SaveFailure.{SaveFailure}
 use Rattle.machine_sides.specs.declared.saving_back.SaveFailure.TheVariants.{Mismatch, Device}
 use Rattle.machine_sides.specs.declared.saving_back.SaveOutcome.{SaveOutcome}
-use Rattle.machine_sides.specs.declared.saving_back.SaveOutcome.TheVariants.{Freed, WrongPage, ResidentAgain, NotRestored}
+use Rattle.machine_sides.specs.declared.saving_back.SaveOutcome.TheVariants.{Freed, WrongPage, ResidentAgain}
 use Rattle.machine_core.specs.Machine.{CoreValue, IsMachine, IsSaveOut, total, jobs_where}
-use Rattle.machine_sides.specs.Returning.{DoesNotList}
-use Rattle.machine_sides.specs.SavingBack.{ShowsFailure, EndsSave, LeavesAgain, FailsAndReturns, FailsAndLeaves}
-use Rattle.machine_sides.proofs.SavingLaws.{SaveEnds, freed_ends, returned_ends, left_ends}
-use Rattle.machine_core.specs.SavingOut.{saved_refusal, is_save_of, MakesSave, EndsSaving, SavesOnce, SavedAt, IsOwn, RepliesTo}
+use Rattle.machine_sides.specs.Returning.{CanReturn}
+use Rattle.machine_sides.specs.SavingBack.{ShowsFailure, EndsSave, LeavesAgain, FailsAndReturns}
+use Rattle.machine_sides.proofs.SavingLaws.{SaveEnds, freed_ends, returned_ends}
+use Rattle.machine_core.specs.SavingOut.{saved_refusal, is_save_of, MakesSave, EndsSaving, SavesOnce}
+use Rattle.machine_core.specs.CollectSteps.{CanReturnAt}
+use Rattle.machine_core.specs.SaveSteps.{SavedAt, IsOwn, RepliesTo}
 use Rattle.machine_sides.specs.Sides.{PagerSideValue, MovesMemory}
 use Rattle.machine_sides.specs.Together.{savings_in, key_of}
 use Rattle.swap_slots.specs.PoolValue.{PoolValue}
 use Rattle.machine_core.proofs.Cores.{lent_back}
-use Rattle.machine_core.proofs.Counted.{HoldsFrame, takes_back}
+use Rattle.machine_core.proofs.Counted.{HoldsFrame, can_return}
 use Rattle.machine_core.proofs.Finding.{total_some}
 use Rattle.machine_core.proofs.Kept.{moved_machine, copies_stay, copies_even}
 use Rattle.machine_core.proofs.TotalLaws.{total_set, got_set, get_set_same, get_set_other}
@@ -85,37 +85,25 @@ module _ {S : Type 0} where
         let frame : again.frame ≡ out.frame = cc in
         absurd (again.failed (ap (λ (f : FrameValue). f.bytes) frame ∙ out.same ∙ sym makes.copy))
 
-    takes : (refusal : Refusal) (pager' : PagerSideValue) → DoesNotList (key_of q.memory.process saved.vpn) core.pager pager' refusal → (refusal ≡ NoMemory → ⊥) → ⊥
-    takes refusal pager' unlisted other = takes_back core key.process q saved.vpn machine found holds refusal (unlisted.why other)
-
-    only_memory : (refusal : Refusal) (pager' : PagerSideValue) → DoesNotList (key_of q.memory.process saved.vpn) core.pager pager' refusal → refusal ≡ NoMemory
-    only_memory AlreadyResident pager' unlisted = absurd (takes AlreadyResident pager' unlisted (λ e. cc))
-    only_memory NoQuestion pager' unlisted = absurd (takes NoQuestion pager' unlisted (λ e. cc))
-    only_memory NotThere pager' unlisted = absurd (takes NotThere pager' unlisted (λ e. cc))
-    only_memory Full pager' unlisted = absurd (takes Full pager' unlisted (λ e. cc))
-    only_memory NoMemory pager' unlisted = refl
+    -- the list takes the page back
+    pub can_come_back : CanReturn saved.vpn core.pager q
+    can_come_back = can_return core key.process q saved.vpn machine found holds
 
     pub own : (outcome : SaveOutcome S) (pager' : PagerSideValue) (q' : SpaceValue S) → EndsSave saved core.pager pager' q q' outcome → IsOwn outcome
     own Freed pager' q' ends = tt
     own (WrongPage back) pager' q' ends = ends.why found_out
     own (ResidentAgain failure) pager' q' ends = device_failed failure ends.between ends.settles
-    own (NotRestored failure why) pager' q' ends = (device_failed failure q' ends.settles, only_memory why pager' ends.unlisted)
 
     pub ends_with : (outcome : SaveOutcome S) (pager' : PagerSideValue) (q' : SpaceValue S) (answer : Reply) → EndsSave saved core.pager pager' q q' outcome → RepliesTo outcome answer → EndsSaving saved core.pager pager' q q' answer
     ends_with Freed pager' q' answer ends told = inl (ends, told)
     ends_with (WrongPage back) pager' q' answer ends told = absurd told
-    ends_with (ResidentAgain failure) pager' q' answer ends told = inr (inl (subst (FailsAndReturns saved core.pager pager' q q') (device_failed failure ends.between ends.settles) ends, told))
-    ends_with (NotRestored failure why) pager' q' answer ends told =
-        inr (inr (subst (λ w. FailsAndLeaves saved core.pager pager' q q' Device w) (only_memory why pager' ends.unlisted) (subst (λ f. FailsAndLeaves saved core.pager pager' q q' f why) (device_failed failure q' ends.settles) ends), told))
+    ends_with (ResidentAgain failure) pager' q' answer ends told = inr (subst (FailsAndReturns saved core.pager pager' q q') (device_failed failure ends.between ends.settles) ends, told)
 
     ended : (pager' : PagerSideValue) (q' : SpaceValue S) (answer : Reply) → EndsSaving saved core.pager pager' q q' answer → SaveEnds saved.vpn core.pager.pager pager'.pager q q'
     ended pager' q' answer ends =
         elim ends [
           | inl freed ↦ freed_ends saved core.pager pager' q q' freed.0
-          | inr failed ↦ elim failed [
-            | inl back ↦ returned_ends saved core.pager pager' q q' Device back.0
-            | inr left ↦ left_ends saved core.pager pager' q q' Device NoMemory left.0
-          ]
+          | inr back ↦ returned_ends saved core.pager pager' q q' Device back.0
         ]
 
     -- ---- the machine stays one
@@ -232,6 +220,16 @@ module _ {S : Type 0} where
             copied = copies_even q q' core.copies ends.together.process ends.copies;
             copies_out = copies_stay core.processes key.process q q' core.copies found ends.copies.stand machine.copies_out;
           })
+
+  -- the list takes the page of a save back
+  pub can_return_at : (held : S → List ℕ) (honest : Type 0) (failures : S → ℕ) (pager : PagerSideValue) (slots : PoolValue S) (jobs copies jobs' : List (JobValue S)) (items lent : List (SpaceValue S)) (key : Key) (saved : SavedValue S)
+      → IsMachine (record { pager = pager; slots = slots; processes = items; jobs = jobs; copies = copies }) → lent ≡ items → MakesSave held honest failures key jobs jobs' saved → CanReturnAt key.process saved.vpn pager lent
+  can_return_at held honest failures pager slots jobs copies jobs' items lent key saved machine same makes =
+      subst (λ l. CanReturnAt key.process saved.vpn pager l) (sym same) (by_found (slice_get items key.process) refl)
+    where
+      by_found : (o : Option (SpaceValue S)) → slice_get items key.process ≡ o → IfSome o (CanReturn saved.vpn pager)
+      by_found None is = tt
+      by_found (Some q) is = can_come_back held honest failures (record { pager = pager; slots = slots; processes = items; jobs = jobs; copies = copies }) key q jobs' saved machine is makes
 
   -- the processes that were lent as a slice, to one of which a save comes back
   module _ (held : S → List ℕ) (honest : Type 0) (failures : S → ℕ) (pager pager' : PagerSideValue) (slots : PoolValue S) (jobs copies jobs' : List (JobValue S)) (items lent new : List (SpaceValue S)) (n : ℕ) (key : Key) (saved : SavedValue S) (outcome : SaveOutcome S)

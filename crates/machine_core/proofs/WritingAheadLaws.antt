@@ -26,7 +26,7 @@ use Rattle.machine_sides.proofs.CollectLaws.{dropped_rest, copied_now}
 use Rattle.machine_sides.proofs.CleaningLaws.{starts_alike}
 use Rattle.machine_sides.proofs.PurgeLaws.{given_copies}
 use Rattle.machine_sides.proofs.ReturnLaws.{returned_rest}
-use Rattle.machine_sides.proofs.SavingLaws.{freed_ends, returned_ends, left_ends}
+use Rattle.machine_sides.proofs.SavingLaws.{freed_ends, returned_ends}
 use Rattle.machine_sides.proofs.SweepLaws.{answers_rest}
 use Rattle.machine_sides.specs.Cleaning.{TakesCopyBack}
 use Rattle.machine_core.proofs.Cores.{step_alike, notice_alike, kill_alike}
@@ -139,16 +139,12 @@ module _ {S : Type 0} (held : S → List ℕ) (honest : Type 0) (failures : S �
       by_end (looked.freed how jobs told) = leaves (dropped_rest k.vpn how.frame once.process once.process' how.drops).copies
       by_end (looked.dirty job how jobs told) = leaves (copied_now k.vpn job once.process once.process' old.slots new.slots how.saving).copies
       by_end (looked.no_slot how jobs told) = leaves (returned_rest k.vpn once.process once.process' how.returns.mapped).copies
-      by_end (looked.no_memory how jobs told) = same how.leaves.stays
 
   saved_keeps : (k : Key) (old new : CoreValue S) (answer : Reply) → SavesOnce held honest failures k old new answer → Stands old → Stands new
   saved_keeps k old new answer once =
       leaves_keep old new k.process once.process once.process' once.found once.processes (elim once.ends [
         | inl freed ↦ (freed_ends once.saved old.pager new.pager once.process once.process' freed.0).copies
-        | inr failed ↦ elim failed [
-          | inl back ↦ (returned_ends once.saved old.pager new.pager once.process once.process' _ back.0).copies
-          | inr left ↦ (left_ends once.saved old.pager new.pager once.process once.process' _ _ left.0).copies
-        ]
+        | inr back ↦ (returned_ends once.saved old.pager new.pager once.process once.process' _ back.0).copies
       ])
 
   paged_in_keeps : (k : Key) (old new : CoreValue S) (answer : Reply) → PagesInOnce held honest failures k old new answer → Stands old → Stands new

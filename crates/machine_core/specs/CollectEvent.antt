@@ -1,20 +1,15 @@
 -- The machine's event of a page that is to leave its frame: when it is refused, and what comes of a look at it.
 use Rattle.std.specs.Prelude.{◌≡◌, ℕ, Option, Some, None, List, [], ◌∷◌, ◌++◌, slice_get, slice_set, if◌then◌else◌}
 use Rattle.clock_policy.specs.declared.key.Key.{Key}
-use Rattle.clock_policy.specs.declared.refusal.Refusal.TheVariants as list
 use Rattle.page_store.specs.JobValue.{JobValue}
 use Rattle.paged_memory.specs.Paged.{memory_of}
-use Rattle.swap_slots.specs.PoolValue.{PoolValue}
 use Rattle.machine_core.specs.declared.error.EventRefusal.{EventRefusal}
 use Rattle.machine_core.specs.declared.error.EventRefusal.TheVariants as refusal
 use Rattle.machine_core.specs.declared.event.Reply.{Reply}
 use Rattle.machine_core.specs.declared.event.Reply.TheVariants as reply
 use Rattle.machine_core.specs.Machine.{CoreValue}
 use Rattle.machine_core.specs.MachineRun.{of_process}
-use Rattle.machine_sides.specs.Collecting.{is_leaving_at, Looks, IsNotYet, IsDropped, IsCopied, LacksAndReturns, LacksAndLeaves}
-use Rattle.machine_sides.specs.Sides.{PagerSideValue}
-use Rattle.machine_sides.specs.declared.collecting.Looked.{Looked}
-use Rattle.machine_sides.specs.declared.collecting.Looked.TheVariants.{NotLeaving, NotYet, Freed, Dirty, NoSlot, NotRestored}
+use Rattle.machine_sides.specs.Collecting.{is_leaving_at, IsNotYet, IsDropped, IsCopied, LacksAndReturns}
 use Rattle.space_core.specs.StandsFor.{SpaceValue}
 
 module _ {S : Type 0} where
@@ -27,13 +22,12 @@ module _ {S : Type 0} where
 
   module _ (vpn : ℕ) (old new : CoreValue S) (process process' : SpaceValue S) (answer : Reply) where
     -- what a look at a page of a process comes to in the machine, with the saves that are then out and the reply: the save of a
-    -- changed page is kept there; memory may be wanting where the list is to take the page back
+    -- changed page is kept there
     pub data CollectsTo : Type 0 where
       not_yet : IsNotYet vpn old.pager new.pager process process' old.slots new.slots → new.jobs ≡ old.jobs → answer ≡ reply.NotYet → CollectsTo
       freed : IsDropped vpn old.pager new.pager process process' old.slots new.slots → new.jobs ≡ old.jobs → answer ≡ reply.Freed → CollectsTo
       dirty : (job : JobValue S) → IsCopied vpn old.pager new.pager process process' old.slots new.slots job → new.jobs ≡ old.jobs ++ job ∷ [] → answer ≡ reply.Dirty → CollectsTo
       no_slot : LacksAndReturns vpn old.pager new.pager process process' old.slots new.slots → new.jobs ≡ old.jobs → answer ≡ reply.NoSlot → CollectsTo
-      no_memory : LacksAndLeaves vpn old.pager new.pager process process' old.slots new.slots list.NoMemory → new.jobs ≡ old.jobs → answer ≡ reply.Refused refusal.NoMemory → CollectsTo
 
   -- a page that is leaving is looked at
   pub record CollectsOnce (held : S → List ℕ) (honest : Type 0) (key : Key) (old new : CoreValue S) (answer : Reply) : Type 0 where
@@ -45,40 +39,3 @@ module _ {S : Type 0} where
     pub memory : honest → memory_of held process'.memory ≡ memory_of held process.memory
     pub processes : new.processes ≡ slice_set old.processes key.process process'
     pub stays : new ≡ record old { pager = new.pager; slots = new.slots; processes = new.processes; jobs = new.jobs }
-
-  -- ---- the steps of the event
-
-  -- a look at a page of the process of this number
-  pub record LooksAt (held : S → List ℕ) (honest : Type 0) (number vpn : ℕ) (pager pager' : PagerSideValue) (slots slots' : PoolValue S) (old new : List (SpaceValue S)) (looked : Looked S) : Type 0 where
-    pub process : SpaceValue S
-    pub process' : SpaceValue S
-    pub found : slice_get old number ≡ Some process
-    pub how : Looks vpn pager pager' process process' slots slots' looked
-    pub memory : honest → memory_of held process'.memory ≡ memory_of held process.memory
-    pub is : new ≡ slice_set old number process'
-
-  -- what comes of a look at a page that is leaving in the machine, where the list takes its pages back
-  abbrev pub IsOwn : Looked S → Type 0
-  IsOwn NotLeaving = ⊥
-  IsOwn NotYet = Unit {0}
-  IsOwn Freed = Unit {0}
-  IsOwn (Dirty job) = Unit {0}
-  IsOwn NoSlot = Unit {0}
-  IsOwn (NotRestored reason) = reason ≡ list.NoMemory
-
-  -- the saves that are out after it, and the reply
-  abbrev pub jobs_after : Looked S → List (JobValue S) → List (JobValue S)
-  jobs_after NotLeaving jobs = jobs
-  jobs_after NotYet jobs = jobs
-  jobs_after Freed jobs = jobs
-  jobs_after (Dirty job) jobs = jobs ++ job ∷ []
-  jobs_after NoSlot jobs = jobs
-  jobs_after (NotRestored reason) jobs = jobs
-
-  abbrev pub looked_reply : Looked S → Reply
-  looked_reply NotLeaving = reply.Refused refusal.NotLeaving
-  looked_reply NotYet = reply.NotYet
-  looked_reply Freed = reply.Freed
-  looked_reply (Dirty job) = reply.Dirty
-  looked_reply NoSlot = reply.NoSlot
-  looked_reply (NotRestored reason) = reply.Refused refusal.NoMemory

@@ -14,3 +14,7 @@ pub mod SavingOut
 pub mod Coherent
 pub mod CleaningEvents
 pub mod WritingAhead
+pub mod CollectSteps
+pub mod SaveSteps
+pub mod PurgeSteps
+pub mod CleaningSteps

@@ -1,17 +1,14 @@
 -- The machine's event of an ended process that gives its frames and slots back.
 use Rattle.std.specs.Prelude.{◌≡◌, ℕ, Option, Some, None, option_map, List, slice_get, slice_set}
-use Rattle.swap_slots.specs.PoolValue.{PoolValue}
 use Rattle.machine_core.specs.Machine.{CoreValue}
 use Rattle.machine_core.specs.MachineRun.{of_process}
-use Rattle.machine_sides.specs.Purging.{purge_bars, PurgesAll, Purges}
-use Rattle.machine_sides.specs.Sides.{PagerSideValue}
+use Rattle.machine_sides.specs.Purging.{purge_bars, PurgesAll}
 use Rattle.machine_core.specs.declared.error.EventRefusal.{EventRefusal}
 use Rattle.machine_core.specs.declared.error.EventRefusal.TheVariants as refusal
 use Rattle.machine_core.specs.declared.event.Reply.{Reply}
 use Rattle.machine_core.specs.declared.event.Reply.TheVariants.{Purged}
 use Rattle.machine_sides.specs.declared.purging.PurgeRefusal.{PurgeRefusal}
 use Rattle.machine_sides.specs.declared.purging.PurgeRefusal.TheVariants.{NotEnded, SavingStill, AlreadyPurged}
-use Rattle.machine_sides.specs.declared.purging.Purging.{Purging}
 use Rattle.space_core.specs.StandsFor.{SpaceValue}
 
 -- a process's reason to give nothing back as a refusal of the event
@@ -24,14 +21,6 @@ module _ {S : Type 0} where
   -- why the event is refused
   abbrev pub purge_refusal : ℕ → List (SpaceValue S) → Option EventRefusal
   purge_refusal process processes = of_process (λ side. option_map purge_reason (purge_bars side)) (slice_get processes process)
-
-  -- a purge of the process of this number
-  pub record PurgesAt (pager pager' : PagerSideValue) (number : ℕ) (old new : List (SpaceValue S)) (pool pool' : PoolValue S) (result : Purging S) : Type 0 where
-    pub process : SpaceValue S
-    pub process' : SpaceValue S
-    pub found : slice_get old number ≡ Some process
-    pub how : Purges pager pager' process process' pool pool' result
-    pub is : new ≡ slice_set old number process'
 
   -- an ended process gives everything back, and the list forgets its pages
   pub record PurgesOnce (number : ℕ) (old new : CoreValue S) (reply : Reply) : Type 0 where

@@ -1,7 +1,6 @@
 -- The event of a page's save: the save that is out is made, and comes back to the pager and its process.
 use Rattle.std.specs.Prelude.{◌≡◌, ◌⊎◌, ◌≤◌, ℕ, Bool, List, ◌∷◌, Option, Some, None, slice_get, slice_set, IsTrue, IsFalse, IsPermutation, if◌then◌else◌}
 use Rattle.clock_policy.specs.declared.key.Key.{Key}
-use Rattle.clock_policy.specs.declared.refusal.Refusal.TheVariants as list
 use Rattle.clock_policy.specs.Residents.{is_key}
 use Rattle.page_store.specs.JobValue.{JobValue, SavedValue}
 use Rattle.paged_memory.specs.Paged.{memory_of}
@@ -11,11 +10,9 @@ use Rattle.machine_core.specs.declared.error.EventRefusal.TheVariants as refusal
 use Rattle.machine_core.specs.declared.event.Reply.{Reply}
 use Rattle.machine_core.specs.declared.event.Reply.TheVariants as reply
 use Rattle.machine_sides.specs.declared.saving_back.SaveFailure.TheVariants.{Device}
-use Rattle.machine_sides.specs.declared.saving_back.SaveOutcome.{SaveOutcome}
-use Rattle.machine_sides.specs.declared.saving_back.SaveOutcome.TheVariants.{Freed, WrongPage, ResidentAgain, NotRestored}
 use Rattle.machine_core.specs.Machine.{CoreValue}
 use Rattle.machine_core.specs.MachineRun.{of_process}
-use Rattle.machine_sides.specs.SavingBack.{is_saving_at, EndsSave, IsFreed, FailsAndReturns, FailsAndLeaves}
+use Rattle.machine_sides.specs.SavingBack.{is_saving_at, IsFreed, FailsAndReturns}
 use Rattle.machine_sides.specs.Sides.{PagerSideValue}
 use Rattle.machine_sides.specs.Together.{key_of}
 use Rattle.space_core.specs.StandsFor.{SpaceValue}
@@ -47,13 +44,11 @@ module _ {S : Type 0} where
     pub fault : IsFalse saved.passed → Rose (failures job.slot) (failures saved.slot)
     pub counted : failures job.slot ≤ failures saved.slot
 
-  -- what a save that comes back is replied with: its page's frame is free, or the device failed and the page is resident
-  -- again, or leaving, where memory is wanting to list it
+  -- what a save that comes back is replied with: its page's frame is free, or the device failed and the page is resident again
   abbrev pub EndsSaving : SavedValue S → PagerSideValue → PagerSideValue → SpaceValue S → SpaceValue S → Reply → Type 0
   EndsSaving saved pager pager' process process' answer =
       (IsFreed saved pager pager' process process' × (answer ≡ reply.Freed))
-      ⊎ ((FailsAndReturns saved pager pager' process process' Device × (answer ≡ reply.Device))
-      ⊎ (FailsAndLeaves saved pager pager' process process' Device list.NoMemory × (answer ≡ reply.Refused refusal.NoMemory)))
+      ⊎ (FailsAndReturns saved pager pager' process process' Device × (answer ≡ reply.Device))
 
   -- a save of a page that is out is made and comes back
   pub record SavesOnce (held : S → List ℕ) (honest : Type 0) (failures : S → ℕ) (key : Key) (old new : CoreValue S) (answer : Reply) : Type 0 where
@@ -67,28 +62,3 @@ module _ {S : Type 0} where
     pub memory : honest → memory_of held process'.memory ≡ memory_of held process.memory
     pub processes : new.processes ≡ slice_set old.processes key.process process'
     pub stays : new ≡ record old { pager = new.pager; processes = new.processes; jobs = new.jobs }
-
-  -- ---- the steps of the event
-
-  -- a save comes back to the pager and the process of this number
-  pub record SavedAt (held : S → List ℕ) (honest : Type 0) (saved : SavedValue S) (pager pager' : PagerSideValue) (number : ℕ) (old new : List (SpaceValue S)) (outcome : SaveOutcome S) : Type 0 where
-    pub process : SpaceValue S
-    pub process' : SpaceValue S
-    pub found : slice_get old number ≡ Some process
-    pub ends : EndsSave saved pager pager' process process' outcome
-    pub memory : honest → memory_of held process'.memory ≡ memory_of held process.memory
-    pub is : new ≡ slice_set old number process'
-
-  -- what comes of a save that the machine made itself
-  abbrev pub IsOwn : SaveOutcome S → Type 0
-  IsOwn Freed = Unit {0}
-  IsOwn (WrongPage job) = ⊥
-  IsOwn (ResidentAgain failure) = failure ≡ Device
-  IsOwn (NotRestored failure why) = (failure ≡ Device) × (why ≡ list.NoMemory)
-
-  -- the reply to it
-  abbrev pub RepliesTo : SaveOutcome S → Reply → Type 0
-  RepliesTo Freed answer = answer ≡ reply.Freed
-  RepliesTo (WrongPage job) answer = ⊥
-  RepliesTo (ResidentAgain failure) answer = answer ≡ reply.Device
-  RepliesTo (NotRestored failure why) answer = answer ≡ reply.Refused refusal.NoMemory

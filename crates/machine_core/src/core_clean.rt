@@ -2,10 +2,14 @@
 
 ghost use Rattle.std.specs.Prelude.{◌≡◌, ◌⊎◌, ◌<◌, length, vec_len, vec_capacity, IfOk};
 ghost use Rattle.machine_core.specs.CleaningEvents.{cleaned_refusal, clean_barred, clean_refusal};
-ghost use Rattle.machine_core.specs.CleaningEvents.{clean_reply, copies_after, copy_barred};
-ghost use Rattle.machine_core.specs.CleaningEvents.{copy_refusal, copy_reply, CleanedOnce};
-ghost use Rattle.machine_core.specs.CleaningEvents.{CleansAt, CleansOnce, CopiesAt, CopiesOnce};
-ghost use Rattle.machine_core.specs.CleaningEvents.{CopyBackAt, IsOwnCopy, RepliesBack};
+ghost use Rattle.machine_core.specs.CleaningEvents.{copy_barred};
+ghost use Rattle.machine_core.specs.CleaningSteps.{clean_reply, copies_after};
+ghost use Rattle.machine_core.specs.CleaningEvents.{copy_refusal, CleanedOnce};
+ghost use Rattle.machine_core.specs.CleaningSteps.{copy_reply};
+ghost use Rattle.machine_core.specs.CleaningEvents.{CleansOnce, CopiesOnce};
+ghost use Rattle.machine_core.specs.CleaningSteps.{CleansAt, CopiesAt};
+ghost use Rattle.machine_core.specs.CleaningEvents.{RepliesBack};
+ghost use Rattle.machine_core.specs.CleaningSteps.{CopyBackAt, IsOwnCopy};
 ghost use Rattle.machine_core.specs.MachineRun.{RefusesEvent};
 
 use crate::error::EventRefusal;

@@ -1,8 +1,8 @@
 //! The machine's event of a page that is to leave its frame.
 
 ghost use Rattle.std.specs.Prelude.{◌≡◌, ◌⊎◌, ◌<◌, length, vec_len, vec_capacity};
-ghost use Rattle.machine_core.specs.CollectEvent.{collect_refusal, CollectsOnce, LooksAt};
-ghost use Rattle.machine_core.specs.CollectEvent.{jobs_after, looked_reply};
+ghost use Rattle.machine_core.specs.CollectSteps.{CanReturnAt, LooksAt, jobs_after, looked_reply};
+ghost use Rattle.machine_core.specs.CollectEvent.{collect_refusal, CollectsOnce};
 ghost use Rattle.machine_core.specs.MachineRun.{RefusesEvent};
 
 use crate::error::EventRefusal;
@@ -58,7 +58,8 @@ fn collect_at<L: Ledger, S: SwapSlot, C: Clock>(
     key: Key,
     slots: &mut SlotPool<S>,
 ) -> Looked<S>
-    requires { key.process < length processes.old }
+    requires there { key.process < length processes.old }
+    requires listed { CanReturnAt key.process key.vpn pager.old processes.old }
     ensures { LooksAt S.content S.honest key.process key.vpn pager.old pager.new slots.old
         slots.new processes.old processes.new result }
 {
@@ -81,6 +82,5 @@ fn keep<S: SwapSlot>(looked: Looked<S>, jobs: &mut Vec<SaveJob<S>>) -> Reply
             Reply::Dirty
         }
         Looked::NoSlot => Reply::NoSlot,
-        Looked::NotRestored(_) => Reply::Refused(EventRefusal::NoMemory),
     }
 }

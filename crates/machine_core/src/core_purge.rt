@@ -1,14 +1,15 @@
 //! The event of a process that gives everything back.
 
 ghost use Rattle.std.specs.Prelude.{◌≡◌, ◌⊎◌, ◌<◌, length};
+ghost use Rattle.machine_core.specs.PurgeSteps.{HasRoomAt, PurgesAt};
 ghost use Rattle.machine_core.specs.MachineRun.{RefusesEvent};
-ghost use Rattle.machine_core.specs.PurgeEvent.{purge_reason, purge_refusal, PurgesAt, PurgesOnce};
+ghost use Rattle.machine_core.specs.PurgeEvent.{purge_reason, purge_refusal, PurgesOnce};
 
 use crate::error::EventRefusal;
 use crate::event::Reply;
 use crate::machine::Core;
 use clock_policy::Clock;
-use machine_sides::{PagerSide, PurgeRefusal, Purging, purge, purge_bars};
+use machine_sides::{PagerSide, PurgeRefusal, purge, purge_bars};
 use space_core::Space;
 use std::sync::ledger::Ledger;
 use swap_slots::{SlotPool, SwapSlot};
@@ -23,7 +24,7 @@ impl<L: Ledger, S: SwapSlot, C: Clock> Core<L, S, C> {
         if let Some(refusal) = refusal {
             return Reply::Refused(refusal);
         }
-        // Nothing bars it, and each slot has room in the pool.
+        // Nothing bars it.
         let _ = purge_at(
             &mut self.pager,
             self.processes.as_mut_slice(),
@@ -67,8 +68,9 @@ fn purge_at<L: Ledger, S: SwapSlot, C: Clock>(
     processes: &mut [Space<L, S>],
     process: usize,
     slots: &mut SlotPool<S>,
-) -> Purging<S>
-    requires { process < length processes.old }
+) -> Result<(), PurgeRefusal>
+    requires there { process < length processes.old }
+    requires room { HasRoomAt process processes.old slots.old }
     ensures { PurgesAt pager.old pager.new process processes.old processes.new slots.old slots.new
         result }
 {

@@ -2,8 +2,9 @@
 
 ghost use Rattle.std.specs.Prelude.{◌≡◌, ◌⊎◌, ◌<◌, length};
 ghost use Rattle.machine_core.specs.MachineRun.{RefusesEvent};
+ghost use Rattle.machine_core.specs.CollectSteps.{CanReturnAt};
+ghost use Rattle.machine_core.specs.SaveSteps.{IsOwn, RepliesTo, SavedAt};
 ghost use Rattle.machine_core.specs.SavingOut.{saved_refusal, SavesOnce};
-ghost use Rattle.machine_core.specs.SavingOut.{SavedAt, IsOwn, RepliesTo};
 
 use crate::error::EventRefusal;
 use crate::event::Reply;
@@ -62,7 +63,8 @@ fn saved_at<L: Ledger, S: SwapSlot, C: Clock>(
     process: usize,
     job: SavedJob<S>,
 ) -> SaveOutcome<S>
-    requires { process < length processes.old }
+    requires there { process < length processes.old }
+    requires listed { CanReturnAt process job.vpn pager.old processes.old }
     ensures { SavedAt S.content S.honest job pager.old pager.new process processes.old
         processes.new result }
 {
@@ -78,6 +80,5 @@ fn saved_reply<S: SwapSlot>(outcome: SaveOutcome<S>) -> Reply
         SaveOutcome::Freed => Reply::Freed,
         SaveOutcome::WrongPage(_) => unreachable!(),
         SaveOutcome::ResidentAgain(_) => Reply::Device,
-        SaveOutcome::NotRestored { .. } => Reply::Refused(EventRefusal::NoMemory),
     }
 }

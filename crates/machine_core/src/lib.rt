@@ -28,8 +28,8 @@ pub use event::{Event, Reply};
 pub use machine::Core;
 pub use machine_sides::{
     Admission, CleanBar, CopyBar, Copying, Looked, NotAdmitted, PagerSide, ProcessReport,
-    PurgeRefusal, Purging, Report, SaveFailure, SaveOutcome, SideCounts, Swept, admit, collect,
-    purge, saved, sweep, undo,
+    PurgeRefusal, Report, SaveFailure, SaveOutcome, SideCounts, Swept, admit, collect, purge,
+    saved, sweep, undo,
 };
 pub use many_steps::StepsReply;
 pub use running::{cut_run, writes_ahead};

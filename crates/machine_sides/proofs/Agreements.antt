@@ -25,15 +25,14 @@ use Rattle.space_core.specs.StandsFor.{SpaceValue}
 use Rattle.swap_slots.specs.PoolValue.{PoolValue}
 use Rattle.page_store.specs.JobValue.{SavedValue}
 use Rattle.machine_sides.specs.Admitting.{AdmissionValue, Admits, is_resident_at, taken_back}
-use Rattle.machine_sides.specs.Agreeing.{Agree, AgreeStill, AsksOf, AgreesPurged}
+use Rattle.machine_sides.specs.Agreeing.{Agree, AgreeStill, AsksOf}
 use Rattle.machine_sides.proofs.CollectLaws.{dropped_process, copied_process}
 use Rattle.machine_sides.specs.Collecting.{Looks}
 use Rattle.machine_sides.specs.declared.collecting.Looked.{Looked}
 use Rattle.machine_sides.specs.declared.collecting.Looked.TheVariants as looked
 use Rattle.machine_sides.specs.declared.saving_back.SaveOutcome.{SaveOutcome}
 use Rattle.machine_sides.specs.declared.saving_back.SaveOutcome.TheVariants as saved
-use Rattle.machine_sides.specs.declared.purging.Purging.{Purging}
-use Rattle.machine_sides.specs.declared.purging.Purging.TheVariants as purge
+use Rattle.machine_sides.specs.declared.purging.PurgeRefusal.{PurgeRefusal}
 use Rattle.machine_sides.specs.declared.sweeping.Swept.{Swept}
 use Rattle.machine_sides.specs.declared.sweeping.Swept.TheVariants as swept
 use Rattle.machine_sides.specs.Loading.{Loads}
@@ -41,7 +40,7 @@ use Rattle.machine_sides.proofs.LookLaws.{looks_listed}
 use Rattle.machine_sides.proofs.PurgeLaws.{neither, given_residents, unbarred}
 use Rattle.machine_sides.specs.Purging.{PurgesAll, Purges}
 use Rattle.machine_sides.specs.SavingBack.{EndsSave}
-use Rattle.machine_sides.proofs.SavingLaws.{freed_ends, left_ends, returned_ends}
+use Rattle.machine_sides.proofs.SavingLaws.{freed_ends, returned_ends}
 use Rattle.machine_sides.specs.Sides.{PagerSideValue}
 use Rattle.machine_sides.proofs.StageLaws.{stage_below}
 use Rattle.machine_sides.proofs.SweepLaws.{read_alike, answers_together}
@@ -233,7 +232,6 @@ module _ {S : Type 0} where
     looked_process looked.Freed how = dropped_process vpn how.frame old new how.drops
     looked_process (looked.Dirty job) how = copied_process vpn job old new slots slots' how.saving
     looked_process looked.NoSlot how = how.returns.mapped.moves.process
-    looked_process (looked.NotRestored reason) how = ap (λ (q : SpaceValue S). q.memory.process) how.leaves.stays
 
     pub looks_agree : (result : Looked S) → Looks vpn pager pager' old new slots slots' result → AgreeStill None pager.pager pager'.pager old new
     looks_agree result how = listed_agree pager.pager pager'.pager old new (looked_process result how) (looks_listed vpn pager pager' old new slots slots' result how)
@@ -243,7 +241,6 @@ module _ {S : Type 0} where
     saved_agrees saved.Freed how = together_agree pager.pager pager'.pager process process' (freed_ends job pager pager' process process' how).together
     saved_agrees (saved.WrongPage back) how = same_agree pager pager' process process' how.pager_stays how.process_stays
     saved_agrees (saved.ResidentAgain failure) how = together_agree pager.pager pager'.pager process process' (returned_ends job pager pager' process process' failure how).together
-    saved_agrees (saved.NotRestored failure refusal) how = together_agree pager.pager pager'.pager process process' (left_ends job pager pager' process process' failure refusal how).together
 
   -- ---- a purge
 
@@ -255,14 +252,10 @@ module _ {S : Type 0} where
       ∙ neither (λ q. q.process == process.memory.process) (λ q. q.vpn == vpn) pager.pager.list
       ∙ sym (given_residents process process' all.moves (unbarred process all.allowed).1.0 (is_key (key_of process.memory.process vpn)))
 
-  pub purge_agrees : (pager pager' : PagerSideValue) (process process' : SpaceValue S) (pool pool' : PoolValue S) (purging : Purging S)
-      → Purges pager pager' process process' pool pool' purging → AgreesPurged pager.pager pager'.pager process process' purging
-  purge_agrees pager pager' process process' pool pool' purge.Done how = record { process = how.moves.process; agree = λ vpn out agreed. purged_agree pager pager' process process' pool pool' how vpn }
-  purge_agrees pager pager' process process' pool pool' (purge.Refused reason) how = same_agree pager pager' process process' how.pager_stays how.process_stays
-  purge_agrees pager pager' process process' pool pool' (purge.HandedBack slot) how =
-      λ vpn same agreed.
-      let listed : residents pager'.pager.list (is_key (key_of process.memory.process vpn)) ≡ residents pager.pager.list (is_key (key_of process.memory.process vpn)) = ap (λ (p : PagerState). residents p.list (is_key (key_of process.memory.process vpn))) how.stops.gave.pager_is in
-      listed ∙ agreed ∙ sym (left_counts process process' vpn how.stops.gave.process same)
+  pub purge_agrees : (pager pager' : PagerSideValue) (process process' : SpaceValue S) (pool pool' : PoolValue S) (result : Result (Unit {0}) PurgeRefusal)
+      → Purges pager pager' process process' pool pool' result → AgreeStill None pager.pager pager'.pager process process'
+  purge_agrees pager pager' process process' pool pool' (Ok done) how = record { process = how.moves.process; agree = λ vpn out agreed. purged_agree pager pager' process process' pool pool' how vpn }
+  purge_agrees pager pager' process process' pool pool' (Err reason) how = same_agree pager pager' process process' how.pager_stays how.process_stays
 
   -- ---- a load
 

@@ -8,6 +8,7 @@ pub mod LookLaws
 pub mod PurgeLaws
 pub mod ReturnLaws
 pub mod SavingLaws
+pub mod Returns
 pub mod StageLaws
 pub mod SweepLaws
 pub mod TogetherLaws

@@ -6,7 +6,7 @@ use Rattle.swap_slots.specs.PoolValue.{PoolValue}
 use Rattle.machine_sides.specs.Collecting.{Looks}
 use Rattle.machine_sides.proofs.CollectLaws.{dropped_residents, dropped_together, copied_together}
 use Rattle.machine_sides.specs.declared.collecting.Looked.{Looked}
-use Rattle.machine_sides.specs.declared.collecting.Looked.TheVariants.{NotLeaving, NotYet, Freed, Dirty, NoSlot, NotRestored}
+use Rattle.machine_sides.specs.declared.collecting.Looked.TheVariants.{NotLeaving, NotYet, Freed, Dirty, NoSlot}
 use Rattle.machine_sides.proofs.ReturnLaws.{back_together}
 use Rattle.machine_sides.specs.Sides.{PagerSideValue}
 use Rattle.machine_sides.specs.Together.{Together, residents_in}
@@ -26,4 +26,3 @@ module _ {S : Type 0} where
     looks_listed Freed how test = (dropped_together vpn pager pager' old new slots slots' how).listed test
     looks_listed (Dirty job) how test = (copied_together vpn pager pager' old new slots slots' job how).listed test
     looks_listed NoSlot how test = (back_together vpn pager pager' old new how.returns).listed test
-    looks_listed (NotRestored reason) how test = (same_sides pager pager' old new how.leaves.unlisted.stays how.leaves.stays).listed test

@@ -21,7 +21,8 @@ use Rattle.paged_memory.specs.Whole.{outs_within, slots_within}
 use Rattle.pager_core.specs.Pager.{PagerState, with_list}
 use Rattle.space_core.specs.StandsFor.{SpaceValue}
 use Rattle.swap_slots.specs.PoolValue.{PoolValue}
-use Rattle.machine_sides.specs.Purging.{is_saving_any, purge_bars, GivesToPools, PurgesAll}
+use Rattle.machine_sides.specs.Giving.{GivesToPools}
+use Rattle.machine_sides.specs.Purging.{is_saving_any, purge_bars, PurgesAll}
 use Rattle.machine_sides.specs.declared.purging.PurgeRefusal.TheVariants.{NotEnded, SavingStill, AlreadyPurged}
 use Rattle.machine_sides.specs.Sides.{PagerSideValue}
 use Rattle.machine_sides.specs.Together.{Together, residents_in, savings_in, frames_in, frames_where, key_of}

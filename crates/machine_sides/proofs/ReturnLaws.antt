@@ -1,27 +1,28 @@
 -- A page that is resident again keeps list and pages together.
-use Rattle.std.proofs.Common.{◌≡◌, ℕ, ◌+◌, Bool, true, ◌&&◌, cond, Ok, Err, IsOk, Result, refl, ap, ◌∙◌, arith}
+use Rattle.std.proofs.Common.{◌≡◌, ℕ, ◌+◌, Bool, true, ◌&&◌, cond, ap, ◌∙◌, arith}
 use Rattle.std.specs.Prelude.{is_ok}
 use Rattle.clock_policy.specs.declared.key.Key.{Key}
 use Rattle.clock_policy.proofs.AdmitLaws.{restored_residents}
-use Rattle.clock_policy.specs.ClockPro.{restored}
+use Rattle.clock_policy.specs.ClockPro.{ClockState, restored}
 use Rattle.clock_policy.proofs.KeptLaws.{restored_frames}
 use Rattle.clock_policy.specs.Residents.{residents}
 use Rattle.paged_memory.proofs.move_laws.LeaveLaws.{HasReturned, returned}
+use Rattle.pager_core.specs.Pager.{takes_back}
 use Rattle.machine_sides.specs.Returning.{ListsAgain, MapsAgain, ComesBack}
 use Rattle.machine_sides.specs.Sides.{PagerSideValue}
 use Rattle.machine_sides.specs.Together.{Together, residents_in, frames_in, frames_where, key_of}
 use Rattle.machine_sides.proofs.TogetherLaws.{LeavesRest, residents_more, savings_same, frames_same}
 use Rattle.space_core.specs.StandsFor.{SpaceValue}
 
+taken_back : (key : Key) (list : ClockState) → takes_back key list ≡ true → is_ok (restored key list).1 ≡ true
+unfolding takes_back
+taken_back key list taken = taken
+
 -- the list has one more
 listed_again : (key : Key) (old new : PagerSideValue) (test : Key → Bool) → ListsAgain key old new → residents new.pager.list test ≡ residents old.pager.list test + cond (test key) 1 0
 listed_again key old new test lists =
     let now : residents new.pager.list test ≡ residents (restored key old.pager.list).0 test = ap (λ (p : PagerSideValue). residents p.pager.list test) lists.pager_is in
-    now ∙ restored_residents test key old.pager.list ∙ ap (λ b. residents old.pager.list test + cond (b && test key) 1 0) (ok (restored key old.pager.list).1 lists.taken)
-  where
-    ok : {A E : Type 0} (r : Result A E) → IsOk r → is_ok r ≡ true
-    ok (Ok a) h = refl
-    ok (Err e) h = cc
+    now ∙ restored_residents test key old.pager.list ∙ ap (λ b. residents old.pager.list test + cond (b && test key) 1 0) (taken_back key old.pager.list lists.taken)
 
 -- and as many frames
 pub listed_frames : (key : Key) (old new : PagerSideValue) → ListsAgain key old new → new.pager.list.frames ≡ old.pager.list.frames

@@ -1,7 +1,6 @@
 -- A save that comes back keeps list, pages and frames together.
 use Rattle.std.proofs.Common.{◌≡◌, ℕ, ◌+◌, Bool, false, cond, List, [], ◌∷◌, ◌++◌, refl, sym, ap, ◌∙◌, arith, subst}
 use Rattle.clock_policy.specs.declared.key.Key.{Key}
-use Rattle.clock_policy.specs.declared.refusal.Refusal.{Refusal}
 use Rattle.clock_policy.specs.Lawful.{Lawful}
 use Rattle.clock_policy.specs.Residents.{residents}
 use Rattle.frame_pool.specs.FrameValue.{FrameValue}
@@ -17,7 +16,7 @@ use Rattle.pager_core.specs.Pager.{PagerState}
 use Rattle.space_core.specs.StandsFor.{SpaceValue}
 use Rattle.machine_sides.specs.declared.saving_back.SaveFailure.{SaveFailure}
 use Rattle.machine_sides.proofs.ReturnLaws.{returned_rest, listed_frames, back_together}
-use Rattle.machine_sides.specs.SavingBack.{LeavesAgain, ShowsFailure, IsFreed, FailsAndReturns, FailsAndLeaves}
+use Rattle.machine_sides.specs.SavingBack.{LeavesAgain, ShowsFailure, IsFreed, FailsAndReturns}
 use Rattle.machine_sides.specs.Sides.{PagerSideValue, MovesMemory}
 use Rattle.machine_sides.specs.Together.{Together, savings_in, frames_where, key_of}
 use Rattle.machine_sides.proofs.TogetherLaws.{residents_same, savings_fewer, frames_same, frames_fewer}
@@ -93,10 +92,6 @@ module _ {S : Type 0} where
           frames = ap (λ (p : PagerSideValue). p.pager.list.frames) stays;
           lawful = λ lawful. subst (λ (p : PagerSideValue). Lawful p.pager.list) (sym stays) lawful;
         }
-
-    -- the save failed, and the list does not take the page back
-    pub left_ends : (failure : SaveFailure) (refusal : Refusal) → FailsAndLeaves job pager pager' process process' failure refusal → SaveEnds job.vpn pager.pager pager'.pager process process'
-    left_ends failure refusal fails = failed_ends failure fails.settles fails.unlisted.stays
 
   -- the save failed, and the page is resident again
   module _ (job : SavedValue S) (pager pager' : PagerSideValue) (process process' : SpaceValue S) where

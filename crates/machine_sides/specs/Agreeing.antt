@@ -4,11 +4,8 @@ use Rattle.clock_policy.specs.declared.key.Key.{Key}
 use Rattle.clock_policy.specs.ClockPro.{question_of}
 use Rattle.clock_policy.specs.Lawful.{Lawful}
 use Rattle.clock_policy.specs.Residents.{residents, is_key, has_resident}
-use Rattle.paged_memory.specs.moves.Moving.{SamePage}
 use Rattle.pager_core.specs.Pager.{PagerState}
 use Rattle.space_core.specs.StandsFor.{SpaceValue}
-use Rattle.machine_sides.specs.declared.purging.Purging.{Purging}
-use Rattle.machine_sides.specs.declared.purging.Purging.TheVariants.{Done, Refused, HandedBack}
 use Rattle.machine_sides.specs.Together.{residents_in, key_of}
 
 module _ {S : Type 0} where
@@ -28,10 +25,3 @@ module _ {S : Type 0} where
   -- the page that the list asks for is of this process
   abbrev pub AsksOf : PagerState → SpaceValue S → Type 0
   AsksOf pager space = (key : Key) → question_of pager.list ≡ Some key → key.process ≡ space.memory.process
-
-  -- the same of a purge, where a slot that is handed back leaves to the next call those pages that the list is to forget
-  abbrev pub AgreesPurged : PagerState → PagerState → SpaceValue S → SpaceValue S → Purging S → Type 0
-  AgreesPurged pager pager' space space' Done = AgreeStill None pager pager' space space'
-  AgreesPurged pager pager' space space' (Refused reason) = AgreeStill None pager pager' space space'
-  AgreesPurged pager pager' space space' (HandedBack slot) =
-      (vpn : ℕ) → SamePage space.memory space'.memory vpn → Agree pager space (key_of space.memory.process vpn) → Agree pager' space' (key_of space.memory.process vpn)

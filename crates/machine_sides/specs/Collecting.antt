@@ -1,6 +1,5 @@
 -- A page that is to leave its frame is looked at: what becomes of its process, of the pager and of the free slots.
 use Rattle.std.specs.Prelude.{◌≡◌, ◌≢◌, ℕ, Bool, false, Option, Some, None, List, [], ◌∷◌, ◌++◌, length}
-use Rattle.clock_policy.specs.declared.refusal.Refusal.{Refusal}
 use Rattle.frame_pool.specs.FrameValue.{FrameValue}
 use Rattle.page_store.specs.JobValue.{JobValue}
 use Rattle.page_store.specs.declared.answer.Collected.{Collected}
@@ -11,10 +10,10 @@ use Rattle.paged_memory.specs.moves.Stages.{is_leaving_stage}
 use Rattle.space_core.specs.StandsFor.{SpaceValue}
 use Rattle.swap_slots.specs.PoolValue.{PoolValue}
 use Rattle.machine_sides.specs.Admitting.{stage_at}
-use Rattle.machine_sides.specs.Returning.{ComesBack, StaysLeaving}
+use Rattle.machine_sides.specs.Returning.{ComesBack}
 use Rattle.machine_sides.specs.Sides.{PagerSideValue, MovesMemory}
 use Rattle.machine_sides.specs.declared.collecting.Looked.{Looked}
-use Rattle.machine_sides.specs.declared.collecting.Looked.TheVariants.{NotLeaving, NotYet, Freed, Dirty, NoSlot, NotRestored}
+use Rattle.machine_sides.specs.declared.collecting.Looked.TheVariants.{NotLeaving, NotYet, Freed, Dirty, NoSlot}
 
 -- the frame of an unchanged page is free, and counted
 abbrev pub FreesDropped : FrameValue → PagerSideValue → PagerSideValue → Type 0
@@ -85,12 +84,6 @@ module _ {S : Type 0} where
       pub returns : ComesBack vpn pager pager' old new
       pub slots_stay : slots' ≡ slots
 
-    -- no slot is there for the page, and it is leaving still, since the list does not take it back
-    pub record LacksAndLeaves (reason : Refusal) : Type 0 where
-      pub lacks : LacksSlot vpn old slots
-      pub leaves : StaysLeaving vpn pager pager' old new reason
-      pub slots_stay : slots' ≡ slots
-
     -- what a look at a page comes to, by its answer
     abbrev pub Looks : Looked S → Type 0
     Looks NotLeaving = (is_leaving_at old vpn ≡ false) × StaysAll
@@ -98,4 +91,3 @@ module _ {S : Type 0} where
     Looks Freed = IsDropped
     Looks (Dirty job) = IsCopied job
     Looks NoSlot = LacksAndReturns
-    Looks (NotRestored reason) = LacksAndLeaves reason

@@ -17,3 +17,4 @@ pub mod Starting
 pub mod Sweeping
 pub mod Together
 pub mod Cleaning
+pub mod Giving

@@ -1,8 +1,9 @@
 -- A save comes back: its page goes to its slot and lets its frame go, or the save failed and the page is resident again.
-use Rattle.std.specs.Prelude.{◌≡◌, ◌≢◌, ℕ, Bool, ◌++◌, [], ◌∷◌, length, IsFalse}
-use Rattle.clock_policy.specs.declared.refusal.Refusal.{Refusal}
+use Rattle.std.specs.Prelude.{◌≡◌, ◌≢◌, ℕ, Bool, ◌++◌, [], ◌∷◌, length, IsFalse, Result, Ok, Err}
 use Rattle.frame_pool.specs.FrameValue.{FrameValue}
 use Rattle.page_store.specs.JobValue.{SavedValue}
+use Rattle.page_store.specs.declared.answer.SaveRefusal.{SaveRefusal}
+use Rattle.page_store.specs.declared.answer.SaveRefusal.TheVariants as refusal
 use Rattle.paged_memory.specs.moves.Moving.{SavedAway, IsOutOf}
 use Rattle.paged_memory.specs.moves.Moving as moving
 use Rattle.paged_memory.specs.Paged.{PagedValue}
@@ -12,13 +13,10 @@ use Rattle.space_core.specs.StandsFor.{SpaceValue}
 use Rattle.machine_sides.specs.Admitting.{stage_at}
 use Rattle.machine_sides.specs.declared.saving_back.SaveFailure.{SaveFailure}
 use Rattle.machine_sides.specs.declared.saving_back.SaveFailure.TheVariants.{Mismatch, Device}
-use Rattle.machine_sides.specs.declared.saving_back.SaveEnd.{SaveEnd}
-use Rattle.machine_sides.specs.declared.saving_back.SaveEnd.TheVariants as end
 use Rattle.machine_sides.specs.declared.saving_back.SaveOutcome.{SaveOutcome}
-use Rattle.machine_sides.specs.declared.saving_back.SaveOutcome.TheVariants.{Freed, WrongPage, ResidentAgain, NotRestored}
-use Rattle.machine_sides.specs.Returning.{ComesBack, DoesNotList}
+use Rattle.machine_sides.specs.declared.saving_back.SaveOutcome.TheVariants.{Freed, WrongPage, ResidentAgain}
+use Rattle.machine_sides.specs.Returning.{ComesBack}
 use Rattle.machine_sides.specs.Sides.{PagerSideValue, MovesMemory}
-use Rattle.machine_sides.specs.Together.{key_of}
 
 -- the frame of a page that was saved is free, and counted
 abbrev pub FreesFrame : FrameValue → PagerSideValue → PagerSideValue → Type 0
@@ -39,11 +37,12 @@ module _ {S : Type 0} where
   LeavesAgain failure job old new = moving.LeavesAgain (ShowsFailure failure job) job old new
 
   module _ (job : SavedValue S) where
-    -- what a save that comes back is to its process: it passed, or it is of no page that is being saved, or it failed
-    abbrev pub Ends : {L : Type 0} → SpaceValue S → SpaceValue S → SaveEnd L S → Type 0
-    Ends old new (end.Passed frame) = MovesMemory (SavedAway job frame) old new
-    Ends old new (end.WrongPage back) = (back ≡ job) × ((new ≡ old) × (¬ IsOutOf job old.memory))
-    Ends old new (end.Failed failure) = MovesMemory (LeavesAgain failure job) old new
+    -- what a save that comes back does to its process: it passed, or it is of no page that is being saved, or it failed
+    abbrev pub Ends : SpaceValue S → SpaceValue S → Result FrameValue (SaveRefusal S) → Type 0
+    Ends old new (Ok frame) = MovesMemory (SavedAway job frame) old new
+    Ends old new (Err (refusal.WrongPage back)) = (back ≡ job) × ((new ≡ old) × (¬ IsOutOf job old.memory))
+    Ends old new (Err refusal.Mismatch) = MovesMemory (LeavesAgain Mismatch job) old new
+    Ends old new (Err refusal.Device) = MovesMemory (LeavesAgain Device job) old new
 
     module _ (pager pager' : PagerSideValue) (process process' : SpaceValue S) where
       -- the page is in its slot, and its frame, which holds what was saved, is free
@@ -65,14 +64,8 @@ module _ {S : Type 0} where
         pub settles : MovesMemory (LeavesAgain failure job) process between
         pub returns : ComesBack job.vpn pager pager' between process'
 
-      -- the save failed, and the page is leaving, since the list does not take it back
-      pub record FailsAndLeaves (failure : SaveFailure) (refusal : Refusal) : Type 0 where
-        pub settles : MovesMemory (LeavesAgain failure job) process process'
-        pub unlisted : DoesNotList (key_of process.memory.process job.vpn) pager pager' refusal
-
     -- a save comes back to the pager and its process
     abbrev pub EndsSave : PagerSideValue → PagerSideValue → SpaceValue S → SpaceValue S → SaveOutcome S → Type 0
     EndsSave pager pager' process process' Freed = IsFreed pager pager' process process'
     EndsSave pager pager' process process' (WrongPage back) = IsOfNoPage pager pager' process process' back
     EndsSave pager pager' process process' (ResidentAgain failure) = FailsAndReturns pager pager' process process' failure
-    EndsSave pager pager' process process' (NotRestored failure refusal) = FailsAndLeaves pager pager' process process' failure refusal

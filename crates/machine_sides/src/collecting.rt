@@ -1,16 +1,16 @@
 //! Looks at a page that is leaving: its frame is freed, its bytes go to be saved, or it waits or returns.
 
-ghost use Rattle.std.specs.Prelude.{◌≡◌, None, ◌↔◌, ◌++◌, [], ◌∷◌, length, IsErr, IfErr, OnOk};
-ghost use Rattle.std.specs.Prelude.{OnErr};
+ghost use Rattle.std.specs.Prelude.{◌≡◌, None, true, ◌++◌, [], ◌∷◌};
 ghost use Rattle.pager_core.specs.Pager.{tallied};
 ghost use Rattle.paged_memory.specs.Paged.{memory_of};
 ghost use Rattle.machine_sides.specs.Agreeing.{AgreeStill};
 ghost use Rattle.machine_sides.specs.Collecting.{is_leaving_at, Finds, FreesDropped, Looks};
+ghost use Rattle.machine_sides.specs.Returning.{CanReturn};
 
 use crate::pager_side::PagerSide;
 use crate::places::state;
 use crate::returning::bring_back;
-use clock_policy::{Clock, Refusal};
+use clock_policy::Clock;
 use frame_pool::Frame;
 use page_memory::PAGE_COUNT;
 use page_store::{Collected, PageState, SaveJob};
@@ -32,13 +32,11 @@ pub enum Looked<S: SwapSlot> {
     Dirty(SaveJob<S>),
     /// It is changed, and there is no slot for it: it is resident again.
     NoSlot,
-    /// The same, but the list did not take it back: it is leaving still.
-    NotRestored(Refusal),
 }
 
 /// Looks whether a page that is leaving can let its frame go: no cache may hold a translation of it. An unchanged page
 /// goes to its backing, and its frame is free. A changed one is copied, to be saved to its slot or to a free one; where it
-/// has none and none is free, it is listed and mapped again.
+/// has none and none is free, it is listed and mapped again: the list has room for a page that is leaving.
 #[tactic(auto, using(crate::proofs::Agreements::looks_agree))]
 pub fn collect<L: Ledger, S: SwapSlot, C: Clock>(
     pager: &mut PagerSide<L, C>,
@@ -46,6 +44,7 @@ pub fn collect<L: Ledger, S: SwapSlot, C: Clock>(
     vpn: u32,
     slots: &mut SlotPool<S>,
 ) -> Looked<S>
+    requires { is_leaving_at process.old vpn ≡ true → CanReturn vpn pager.old process.old }
     ensures looked { Looks vpn pager.old pager.new process.old process.new slots.old slots.new
         result }
     ensures agree { AgreeStill None pager.old.pager pager.new.pager process.old
@@ -57,12 +56,14 @@ pub fn collect<L: Ledger, S: SwapSlot, C: Clock>(
 }
 
 /// The look itself, at one page.
+#[tactic(auto, using(crate::proofs::Returns::slotless_returns))]
 fn look_at_page<L: Ledger, S: SwapSlot, C: Clock>(
     pager: &mut PagerSide<L, C>,
     process: &mut Space<L, S>,
     vpn: u32,
     slots: &mut SlotPool<S>,
 ) -> Looked<S>
+    requires { is_leaving_at process.old vpn ≡ true → CanReturn vpn pager.old process.old }
     ensures looked { Looks vpn pager.old pager.new process.old process.new slots.old slots.new
         result }
     ensures memory { S.honest → memory_of S.content process.new.memory ≡
@@ -76,10 +77,10 @@ fn look_at_page<L: Ledger, S: SwapSlot, C: Clock>(
             Looked::Freed
         }
         Collected::Dirty(job) => Looked::Dirty(job),
-        Collected::NoSlot => match bring_back(pager, process, vpn) {
-            Ok(()) => Looked::NoSlot,
-            Err(refusal) => Looked::NotRestored(refusal),
-        },
+        Collected::NoSlot => {
+            bring_back(pager, process, vpn);
+            Looked::NoSlot
+        }
     }
 }
 

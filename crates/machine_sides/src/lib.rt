@@ -31,7 +31,7 @@ pub use loading::load;
 pub use pager_side::{PagerSide, SideCounts};
 pub use places::{is_resident, state};
 pub use process_reading::{held_pages, peek};
-pub use purging::{PurgeRefusal, Purging, purge, purge_bars};
+pub use purging::{PurgeRefusal, has_room, purge, purge_bars};
 pub use report::{ProcessReport, Report};
 pub use reporting::{into_process_report, into_report, report_on};
 pub use saving_back::{SaveFailure, SaveOutcome, is_saving, saved};

@@ -5,7 +5,7 @@ ghost use Rattle.std.specs.Prelude.{option_map, slice_get, length};
 ghost use Rattle.clock_policy.specs.ClockPro.{question_of};
 ghost use Rattle.clock_policy.specs.Lawful.{Lawful};
 ghost use Rattle.clock_policy.specs.Bound.{answers_left, NothingResident};
-ghost use Rattle.pager_core.specs.Pager.{full_pager, tallied};
+ghost use Rattle.pager_core.specs.Pager.{full_pager, takes_back, tallied};
 
 use clock_policy::{Clock, EntryKind, Key};
 use frame_pool::PoolError;
@@ -72,6 +72,13 @@ impl<L: Ledger, C: Clock> PagerSide<L, C> {
         ensures size { self.now.pager.list.frames ≡ self.now.pager.size }
     {
         self.pager.question()
+    }
+
+    /// Whether the list would take a page back that could not leave its frame.
+    pub fn takes_back(&self, key: Key) -> bool
+        ensures { result ≡ takes_back key self.now.pager.list }
+    {
+        self.pager.takes_back(key)
     }
 
     /// The entry of the list at a place, counted from the front.

@@ -1,9 +1,9 @@
 //! An ended process gives its frames and slots back, and the replacement list forgets its pages.
 
-ghost use Rattle.std.specs.Prelude.{◌≡◌, IsSome};
-ghost use Rattle.machine_sides.specs.Agreeing.{AgreesPurged};
-ghost use Rattle.machine_sides.specs.Purging.{Purges, GivesAllBack, FreesAnyFrame, Pools};
-ghost use Rattle.machine_sides.specs.Purging.{is_saving_any, purge_bars};
+ghost use Rattle.std.specs.Prelude.{◌≡◌, ◌<◌, ◌↔◌, None, IsSome, IsTrue, length};
+ghost use Rattle.machine_sides.specs.Agreeing.{AgreeStill};
+ghost use Rattle.machine_sides.specs.Giving.{FreesAnyFrame, GivesToPools, PoolsAnySlot};
+ghost use Rattle.machine_sides.specs.Purging.{HasRoom, Purges, is_saving_any, purge_bars};
 
 use crate::pager_side::PagerSide;
 use clock_policy::Clock;
@@ -25,28 +25,18 @@ pub enum PurgeRefusal {
     AlreadyPurged,
 }
 
-/// What came of the pages of an ended process.
-#[derive(Drop)]
-pub enum Purging<S: SwapSlot> {
-    /// The process has given everything back.
-    Done,
-    /// Nothing has changed.
-    Refused(PurgeRefusal),
-    /// All slots are in their pool: the slot that the last page gave is another pool's, and comes back. The list is as it
-    /// was, and pages that are left go on with the next call.
-    HandedBack(S),
-}
-
-/// An ended process gives its frames and slots back, and the list forgets its pages.
+/// An ended process gives its frames and slots back, and the list forgets its pages. The pool has room for the slots. A refusal
+/// changes nothing.
 #[tactic(auto, using(crate::proofs::Agreements::purge_agrees))]
 pub fn purge<L: Ledger, S: SwapSlot, C: Clock>(
     pager: &mut PagerSide<L, C>,
     process: &mut Space<L, S>,
     slots: &mut SlotPool<S>,
-) -> Purging<S>
+) -> Result<(), PurgeRefusal>
+    requires { HasRoom process.old slots.old }
     ensures purges { Purges pager.old pager.new process.old process.new slots.old slots.new result }
-    ensures agree { AgreesPurged pager.old.pager pager.new.pager process.old
-        process.new result }
+    ensures agree { AgreeStill None pager.old.pager pager.new.pager process.old
+        process.new }
 {
     give_back_and_forget(pager, process, slots)
 }
@@ -56,19 +46,24 @@ fn give_back_and_forget<L: Ledger, S: SwapSlot, C: Clock>(
     pager: &mut PagerSide<L, C>,
     process: &mut Space<L, S>,
     slots: &mut SlotPool<S>,
-) -> Purging<S>
+) -> Result<(), PurgeRefusal>
+    requires { HasRoom process.old slots.old }
     ensures { Purges pager.old pager.new process.old process.new slots.old slots.new result }
 {
     if let Some(refusal) = purge_bars(process) {
-        return Purging::Refused(refusal);
+        return Err(refusal);
     }
-    let left = give_all_back(&mut pager.pager, process, slots);
-    if let Some(slot) = left {
-        return Purging::HandedBack(slot);
-    }
+    give_all_back(&mut pager.pager, process, slots);
     pager.pager.purge(process.process());
     process.mark_purged();
-    Purging::Done
+    Ok(())
+}
+
+/// Whether a pool has room for the slots of a process's pages, beside those that it has.
+pub fn has_room<L: Ledger, S: SwapSlot>(process: &Space<L, S>, slots: &SlotPool<S>) -> bool
+    ensures { IsTrue result ↔ HasRoom process.now slots.now }
+{
+    process.slots_at_hand() <= slots.size() - slots.len()
 }
 
 /// Why a process gives nothing back.
@@ -96,26 +91,23 @@ fn is_saving<L: Ledger, S: SwapSlot>(space: &Space<L, S>) -> bool
     space.is_saving()
 }
 
-/// The pages of an ended process give back what they have, until the pool does not take a slot.
+/// The pages of an ended process give back what they have.
 fn give_all_back<L: Ledger, S: SwapSlot, C: Clock>(
     pager: &mut Pager<L, C>,
     space: &mut Space<L, S>,
     slots: &mut SlotPool<S>,
-) -> Option<S>
-    requires { IsSome space.old.running.ending }
-    ensures { GivesAllBack result pager.old pager.new slots.old slots.new space.old space.new }
+)
+    requires ended { IsSome space.old.running.ending }
+    requires room { HasRoom space.old slots.old }
+    ensures { GivesToPools pager.old pager.new slots.old slots.new space.old space.new }
 {
     let mut from = 0;
     while let Some((given, next)) = space.take_from(from) {
         from = next;
         let (frame, slot) = given;
         free_frame(pager, frame);
-        let left = pool_slot(slots, slot);
-        if left.is_some() {
-            return left;
-        }
+        pool_slot(slots, slot);
     }
-    None
 }
 
 /// A frame comes free, if there is one.
@@ -127,12 +119,12 @@ fn free_frame<L: Ledger, C: Clock>(pager: &mut Pager<L, C>, frame: Option<Frame<
     }
 }
 
-/// A slot comes into the pool, or is handed back where all of its slots are there.
-fn pool_slot<S: SwapSlot>(slots: &mut SlotPool<S>, slot: Option<S>) -> Option<S>
-    ensures { Pools slot result slots.old slots.new }
+/// A slot comes into the pool, if there is one. The pool has room for it.
+fn pool_slot<S: SwapSlot>(slots: &mut SlotPool<S>, slot: Option<S>)
+    requires { IsSome slot → length slots.old.free < slots.old.size }
+    ensures { PoolsAnySlot slot slots.old slots.new }
 {
-    match slot {
-        Some(slot) => slots.give(slot).err(),
-        None => None,
+    if let Some(slot) = slot {
+        slots.put_back(slot);
     }
 }

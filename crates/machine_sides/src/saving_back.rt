@@ -1,14 +1,15 @@
 //! The end of a save: the page's frame is freed, or the page is resident and listed again.
 
-ghost use Rattle.std.specs.Prelude.{◌≡◌, None, ◌↔◌, length, IsErr, IfErr, OnOk, OnErr};
+ghost use Rattle.std.specs.Prelude.{◌≡◌, None};
 ghost use Rattle.paged_memory.specs.Paged.{memory_of};
 ghost use Rattle.machine_sides.specs.Agreeing.{AgreeStill};
-ghost use Rattle.machine_sides.specs.SavingBack.{is_saving_at, EndsSave, Ends, FreesFrame};
+ghost use Rattle.machine_sides.specs.SavingBack.{is_saving_at, Ends, EndsSave, FreesFrame};
+ghost use Rattle.machine_sides.specs.Returning.{CanReturn};
 
 use crate::pager_side::PagerSide;
 use crate::places::state;
 use crate::returning::bring_back;
-use clock_policy::{Clock, Refusal};
+use clock_policy::Clock;
 use frame_pool::Frame;
 use page_store::{PageState, SaveRefusal, SavedJob};
 use pager_core::tally;
@@ -34,23 +35,19 @@ pub enum SaveOutcome<S: SwapSlot> {
     WrongPage(SavedJob<S>),
     /// The save failed, and the page is resident again, as a changed one.
     ResidentAgain(SaveFailure),
-    /// The save failed, and the page is leaving again, as a changed one: the list does not take it back.
-    NotRestored {
-        failure: SaveFailure,
-        refusal: Refusal,
-    },
 }
 
 /// Ends the save of a page: its frame comes free where it holds what was saved, and the device passed it. Else the page
 /// is resident again, and listed.
 ///
-/// The process is the one of the save's page.
+/// The process is the one of the save's page, for which the list has room.
 #[tactic(auto, using(crate::proofs::Agreements::saved_agrees))]
 pub fn saved<L: Ledger, S: SwapSlot, C: Clock>(
     pager: &mut PagerSide<L, C>,
     process: &mut Space<L, S>,
     job: SavedJob<S>,
 ) -> SaveOutcome<S>
+    requires { CanReturn job.vpn pager.old process.old }
     ensures ends { EndsSave job pager.old pager.new process.old process.new result }
     ensures agree { AgreeStill None pager.old.pager pager.new.pager process.old
         process.new }
@@ -61,35 +58,49 @@ pub fn saved<L: Ledger, S: SwapSlot, C: Clock>(
 }
 
 /// The page goes to its slot or back to the list.
+#[tactic(auto, using(crate::proofs::Returns::failed_returns))]
 fn settle_save<L: Ledger, S: SwapSlot, C: Clock>(
     pager: &mut PagerSide<L, C>,
     process: &mut Space<L, S>,
     job: SavedJob<S>,
 ) -> SaveOutcome<S>
+    requires { CanReturn job.vpn pager.old process.old }
     ensures ends { EndsSave job pager.old pager.new process.old process.new result }
     ensures memory { S.honest → memory_of S.content process.new.memory ≡
         memory_of S.content process.old.memory }
 {
     let vpn = job.vpn();
     match end_save(process, job, &mut pager.room) {
-        SaveEnd::Passed(frame) => {
+        Ok(frame) => {
             pager.free_saved(frame);
             SaveOutcome::Freed
         }
-        SaveEnd::WrongPage(job) => SaveOutcome::WrongPage(job),
-        SaveEnd::Failed(failure) => match bring_back(pager, process, vpn) {
-            Ok(()) => SaveOutcome::ResidentAgain(failure),
-            Err(refusal) => SaveOutcome::NotRestored { failure, refusal },
+        Err(refusal) => match refusal {
+            SaveRefusal::WrongPage(job) => SaveOutcome::WrongPage(job),
+            SaveRefusal::Mismatch => {
+                bring_back(pager, process, vpn);
+                SaveOutcome::ResidentAgain(SaveFailure::Mismatch)
+            }
+            SaveRefusal::Device => {
+                bring_back(pager, process, vpn);
+                SaveOutcome::ResidentAgain(SaveFailure::Device)
+            }
         },
     }
 }
 
-/// What a save that comes back does to its process.
-#[derive(Drop)]
-enum SaveEnd<L: Ledger, S: SwapSlot> {
-    Passed(Frame<L>),
-    WrongPage(SavedJob<S>),
-    Failed(SaveFailure),
+/// Ends the save of a page of this process.
+fn end_save<L: Ledger, S: SwapSlot>(
+    space: &mut Space<L, S>,
+    job: SavedJob<S>,
+    room: &mut Box<[u8; 4096]>,
+) -> Result<Frame<L>, SaveRefusal<S>>
+    ensures ends { Ends job space.old space.new result }
+    ensures process { space.new.memory.process ≡ space.old.memory.process }
+    ensures memory { S.honest → memory_of S.content space.new.memory ≡
+        memory_of S.content space.old.memory }
+{
+    space.saved(job, room)
 }
 
 /// Whether a page is being saved.
@@ -106,26 +117,6 @@ pub fn is_saving<L: Ledger, S: SwapSlot>(space: &Space<L, S>, vpn: u32) -> bool
             | PageState::Purged,
         ) => false,
         None => false,
-    }
-}
-
-/// Ends the save of a page of this process.
-fn end_save<L: Ledger, S: SwapSlot>(
-    space: &mut Space<L, S>,
-    job: SavedJob<S>,
-    room: &mut Box<[u8; 4096]>,
-) -> SaveEnd<L, S>
-    ensures ends { Ends job space.old space.new result }
-    ensures memory { S.honest → memory_of S.content space.new.memory ≡
-        memory_of S.content space.old.memory }
-{
-    match space.saved(job, room) {
-        Ok(frame) => SaveEnd::Passed(frame),
-        Err(refusal) => match refusal {
-            SaveRefusal::WrongPage(job) => SaveEnd::WrongPage(job),
-            SaveRefusal::Mismatch => SaveEnd::Failed(SaveFailure::Mismatch),
-            SaveRefusal::Device => SaveEnd::Failed(SaveFailure::Device),
-        },
     }
 }
 

@@ -1,5 +1,5 @@
 -- What a page becomes by each move, and what the move gives.
-use Rattle.std.specs.Prelude.{◌≡◌, ◌≢◌, ℕ, Bool, true, false, Option, Some, None, Result, Ok, Err, IsFalse}
+use Rattle.std.specs.Prelude.{◌≡◌, ◌≢◌, ℕ, Bool, true, false, Option, Some, None, Result, Ok, Err, IfSome, IsFalse}
 use Rattle.sha2.specs.Sha256.{sha256}
 use Rattle.swap_slots.specs.Slot.{Rose}
 use Rattle.frame_pool.specs.FrameValue.{FrameValue}
@@ -9,8 +9,8 @@ use Rattle.page_store.specs.declared.refusal.ReadFault.TheVariants as read_fault
 use Rattle.page_store.specs.declared.refusal.FillFault.{FillFault}
 use Rattle.page_store.specs.declared.refusal.FillFault.TheVariants as fault
 use Rattle.page_store.specs.CopyValue.{CopyValue}
-use Rattle.page_store.specs.PageValue.{PageValue, Place, Fresh, Resident, Leaving, Saving, Away, Purged, Matches, failures_at}
-use Rattle.page_store.specs.Keeping.{Keeping, NoSlot, Saved, Unbacked, Cleaning, CopyOut, settled}
+use Rattle.page_store.specs.PageValue.{PageValue, Place, Fresh, Resident, Leaving, Saving, Away, Purged, Matches, failures_at, slot_of}
+use Rattle.page_store.specs.Keeping.{Keeping, NoSlot, Saved, Unbacked, Cleaning, CopyOut, kept, settled}
 use Rattle.page_store.specs.declared.answer.Collected.{Collected}
 use Rattle.page_store.specs.declared.answer.Collected.TheVariants as answer
 use Rattle.page_store.specs.declared.answer.SaveRefusal.{SaveRefusal}
@@ -154,6 +154,10 @@ IfSaved CopyOut P = ⊥
 abbrev pub Filled : {S : Type 0} → FrameValue → PageValue S → PageValue S → Type 0
 Filled frame old new =
     IfResident new.place (λ filled slot. (filled.number ≡ frame.number) × IfAbsent old.place ((filled.bytes ≡ old.origin.bytes) × (slot ≡ NoSlot)) (λ _. IfSaved slot (λ _. Unit {0})))
+
+-- the slot in which a page lay was called once, and the page has it at hand still
+abbrev pub CalledOnce : {S : Type 0} → (S → S → Type 0) → Place S → Place S → Type 0
+CalledOnce {S} called old new = (copy : CopyValue S) → old ≡ Away copy → IfSome (kept (slot_of new)) (called copy.slot)
 
 -- why a page was not brought in, with the frame that is handed back
 abbrev pub RefusesFill : {S : Type 0} → Type 0 → (S → ℕ) → FrameValue → Place S → Place S → FrameValue → FillFault → Type 0

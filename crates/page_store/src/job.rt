@@ -99,6 +99,7 @@ impl<S: SwapSlot, P> WriteJob<S, P> {
         ensures fault { IsFalse result.passed →
             Rose (S.failures self.slot) (S.failures result.slot) }
         ensures counted { S.failures self.slot ≤ S.failures result.slot }
+        ensures called { S.called self.slot result.slot }
     {
         let WriteJob {
             process,

@@ -2,7 +2,7 @@
 
 ghost use Rattle.std.specs.Prelude.{◌≡◌, ◌↔◌, ℕ, List, Ok, Err, Some, None};
 ghost use Rattle.std.specs.Prelude.{OnOk, OnErr, IfOk, IfErr, IsErr, IsTrue, false};
-ghost use Rattle.page_store.specs.Moves.{left, brought_back, collected};
+ghost use Rattle.page_store.specs.Moves.{CalledOnce, left, brought_back, collected};
 ghost use Rattle.page_store.specs.Moves.{collect_leaving, with_spare, job_of, IfSaving, copy_of};
 ghost use Rattle.page_store.specs.Moves.{RefusesSave, Filled, RefusesFill};
 ghost use Rattle.page_store.specs.PageValue.{Leaving, Saving, Away, BackedAt};
@@ -32,6 +32,7 @@ impl<L: Ledger, S: SwapSlot> State<L, S> {
         ensures digest { kept_digest (place_in_state result.0) ≡ kept_digest (place_in_state self) }
         ensures passed { OnOk result.1 (failures_at S.failures (place_in_state result.0) ≡
             failures_at S.failures (place_in_state self)) }
+        ensures called { CalledOnce S.called (place_in_state self) (place_in_state result.0) }
         ensures refused { IfErr result.1 (λ back.
             RefusesFill S.honest S.failures frame (place_in_state self) (place_in_state result.0) back.0 back.1) }
         ensures content { Known S.honest (place_in_state self) →

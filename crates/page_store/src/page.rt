@@ -4,9 +4,9 @@ ghost use Rattle.std.specs.Prelude.{◌≡◌, ◌≢◌, ◌+◌, ◌≤◌, �
 ghost use Rattle.std.specs.Prelude.{OnOk, OnErr, IfOk, IfErr, IsErr, IsTrue, false, OnSome, IfNone};
 ghost use Rattle.std.specs.Prelude.{option_copied, option_map, is_some};
 ghost use Rattle.page_store.specs.Cleaning.{is_being_cleaned};
-ghost use Rattle.page_store.specs.Keeping.{is_copy_out};
+ghost use Rattle.page_store.specs.Keeping.{is_copy_out, kept};
 ghost use Rattle.page_store.specs.Moves.{left, brought_back, given_back, collected};
-ghost use Rattle.page_store.specs.Moves.{IfSaving, copy_of};
+ghost use Rattle.page_store.specs.Moves.{CalledOnce, IfSaving, copy_of};
 ghost use Rattle.page_store.specs.Moves.{RefusesSave, Filled, RefusesFill, RefusesRead, IfAway};
 ghost use Rattle.page_store.specs.PageValue.{Leaving, Saving, Away, Purged, Backed};
 ghost use Rattle.page_store.specs.PageValue.{changed as counts_as_changed, Known, content};
@@ -154,6 +154,19 @@ impl<L: Ledger, S: SwapSlot> StoredPage<L, S> {
         }
     }
 
+    /// Whether it has a slot at hand.
+    pub fn has_slot(&self) -> bool
+        ensures { result ≡ is_some (kept (slot_of self.now.place)) }
+    {
+        match &self.state {
+            State::Resident(_, slot) => slot.has_slot(),
+            State::Leaving(_, slot, _) => slot.has_slot(),
+            State::Away(_) => true,
+            State::ResidentOut(_) | State::LeavingOut(..) | State::Saving(..) => false,
+            State::Fresh | State::Purged => false,
+        }
+    }
+
     /// Whether it has a frame or a slot to give back.
     pub fn has_to_give(&self) -> bool
         ensures { result ≡ is_some (given_back self.now.place) }
@@ -194,6 +207,7 @@ impl<L: Ledger, S: SwapSlot> StoredPage<L, S> {
         ensures digest { kept_digest self.new.place ≡ kept_digest self.old.place }
         ensures passed { OnOk result (failures_at S.failures self.new.place ≡
             failures_at S.failures self.old.place) }
+        ensures called { CalledOnce S.called self.old.place self.new.place }
         ensures refused { IfErr result (λ back.
             RefusesFill S.honest S.failures frame self.old.place self.new.place back.0 back.1) }
         ensures content { Known S.honest self.old.place → content S.content self.new ≡
@@ -336,6 +350,7 @@ impl<L: Ledger, S: SwapSlot> StoredPage<L, S> {
         ensures mapped { OnOk result (self.old.place ≢ Purged) }
         ensures passed { OnOk result (failures_at S.failures self.new.place ≡
             failures_at S.failures self.old.place) }
+        ensures called { CalledOnce S.called self.old.place self.new.place }
         ensures refused { IfErr result (RefusesRead S.failures self.old.place self.new.place) }
         ensures state { page_state_of self.new.place ≡ page_state_of self.old.place }
         ensures digest { kept_digest self.new.place ≡ kept_digest self.old.place }

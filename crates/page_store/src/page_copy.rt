@@ -50,6 +50,7 @@ impl<S: SwapSlot> PageCopy<S> {
         ensures passed { OnOk result (S.failures self.new.slot ≡ S.failures self.old.slot) }
         ensures fault { OnErr result (Rose (S.failures self.old.slot) (S.failures self.new.slot)) }
         ensures digest { self.new.digest ≡ self.old.digest }
+        ensures called { S.called self.old.slot self.new.slot }
     {
         self.slot.load(page)
     }
@@ -64,6 +65,7 @@ impl<S: SwapSlot> PageCopy<S> {
         ensures kept { S.honest → S.content self.new.slot ≡ S.content self.old.slot }
         ensures passed { OnOk result (S.failures self.new.slot ≡ S.failures self.old.slot) }
         ensures digest { self.new.digest ≡ self.old.digest }
+        ensures called { S.called self.old.slot self.new.slot }
     {
         if self.slot.load(page).is_err() {
             return Err(FillFault::Device);

@@ -43,7 +43,7 @@ pub(crate) enum Keeping<S: SwapSlot> {
 }
 
 impl<S: SwapSlot> Keeping<S> {
-    ghost use Rattle.std.specs.Prelude.{◌≡◌};
+    ghost use Rattle.std.specs.Prelude.{◌≡◌, is_some};
     ghost use Rattle.page_store.specs.Cleaning.{is_cleaning};
     ghost use Rattle.page_store.specs.Keeping.{is_unbacked, kept, settled};
     ghost use Rattle.page_store.specs.View.{keeping_of};
@@ -57,6 +57,18 @@ impl<S: SwapSlot> Keeping<S> {
             Keeping::Saved(copy) => Some(copy.into_slot()),
             Keeping::Unbacked(slot) => slot,
             Keeping::Cleaning(slot) => slot,
+        }
+    }
+
+    /// Whether there is a slot at hand.
+    pub(crate) fn has_slot(&self) -> bool
+        ensures { result ≡ is_some (kept (keeping_of self.now)) }
+    {
+        match self {
+            Keeping::NoSlot => false,
+            Keeping::Saved(_) => true,
+            Keeping::Unbacked(slot) => slot.is_some(),
+            Keeping::Cleaning(slot) => slot.is_some(),
         }
     }
 

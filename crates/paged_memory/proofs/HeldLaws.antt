@@ -1,9 +1,10 @@
 -- Pages that stand in frames, counted one mapped page after another.
-use Rattle.std.proofs.Common.{◌≡◌, ℕ, zero, suc, ◌+◌, ◌<◌, ◌≤◌, Bool, true, ◌&&◌, cond, inl, inr, List, Option, Some, None, option_map, refl, ap, arith, add-one}
+use Rattle.std.proofs.Common.{◌≡◌, ℕ, zero, suc, ◌+◌, ◌<◌, ◌≤◌, Bool, true, ◌&&◌, cond, inl, inr, List, Option, Some, None, option_map, is_some, refl, ap, arith, add-one}
 use Rattle.std.proofs.lemmas.Bool.Decides.{leb_tells}
 use Rattle.page_memory.specs.Entries.{place_of}
-use Rattle.page_store.specs.PageValue.{PageValue, Place, Fresh, Resident, Leaving, Saving, Away, Purged, frame_of, page_state_of}
-use Rattle.paged_memory.specs.Counting.{page_passes, pages_below, is_resident_place, frame_passes}
+use Rattle.page_store.specs.Keeping.{Keeping, NoSlot, Saved, Unbacked, Cleaning, CopyOut, kept}
+use Rattle.page_store.specs.PageValue.{PageValue, Place, Fresh, Resident, Leaving, Saving, Away, Purged, frame_of, page_state_of, slot_of}
+use Rattle.paged_memory.specs.Counting.{page_passes, pages_below, is_resident_place, frame_passes, is_kept}
 use Rattle.paged_memory.specs.Paged.{page_at}
 use Rattle.paged_memory.specs.moves.Stages.{is_resident_stage, has_frame_stage}
 use Rattle.paged_memory.proofs.move_laws.PagedLaws.{page_at-nowhere}
@@ -33,6 +34,19 @@ module _ {S : Type 0} where
       by_place (Saving frame mark) = refl
       by_place (Away slot) = refl
       by_place Purged = refl
+
+  pub slotted_by : (page : PageValue S) → is_some (kept (slot_of page.place)) ≡ is_kept (slot_of page.place)
+  slotted_by page = by_slot (slot_of page.place)
+    where
+      by_slot : (slot : Keeping S) → is_some (kept slot) ≡ is_kept slot
+      by_slot NoSlot = refl
+      by_slot (Saved copy) = refl
+      by_slot (Unbacked slot) = refl
+      by_slot (Cleaning slot) = refl
+      by_slot CopyOut = refl
+
+  abbrev pub slots_to : List (ℕ × PageValue S) → ℕ → ℕ
+  slots_to pages n = pages_below (λ number (page : PageValue S). is_kept (slot_of page.place)) pages n
 
   abbrev pub residents_to : List (ℕ × PageValue S) → ℕ → ℕ
   residents_to pages n = pages_below (λ number (page : PageValue S). is_resident_place page.place && true) pages n

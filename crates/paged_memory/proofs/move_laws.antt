@@ -8,6 +8,7 @@ pub mod StillLaws
 pub mod GivenLaws
 pub mod SlotsLaws
 pub mod PagedLaws
+pub mod CallLaws
 pub mod LeavingLaws
 pub mod LentLaws
 pub mod MovesLaws

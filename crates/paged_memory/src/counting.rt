@@ -1,11 +1,11 @@
 //! How many pages of a process stand in frames.
 
 ghost use Rattle.std.specs.Prelude.{◌≡◌, ◌≤◌, ◌<◌, ◌^◌, true, ◌&&◌, cond};
-ghost use Rattle.page_store.specs.PageValue.{frame_of};
-ghost use Rattle.paged_memory.specs.Counting.{frame_passes, is_resident_place, page_passes};
+ghost use Rattle.page_store.specs.PageValue.{frame_of, slot_of};
+ghost use Rattle.paged_memory.specs.Counting.{frame_passes, is_kept, is_resident_place, page_passes};
 ghost use Rattle.paged_memory.specs.Paged.{page_at};
 ghost use Rattle.paged_memory.specs.moves.Stages.{has_frame_stage, is_resident_stage};
-ghost use Rattle.paged_memory.specs.Whole.{frames_among, residents_among};
+ghost use Rattle.paged_memory.specs.Whole.{frames_among, residents_among, slots_within};
 
 use crate::eviction::state_in;
 use crate::memory::PagedMemory;
@@ -42,6 +42,40 @@ impl<L: Ledger, S: SwapSlot> PagedMemory<L, S> {
         }
         held
     }
+
+    /// Counts the pages that have a slot at hand.
+    pub fn slots_at_hand(&self) -> usize
+        ensures { result ≡ slots_within self.now }
+    {
+        let mut count = 0;
+        let mut from = 0;
+        'pages: while let Some(vpn) = self.pages.first_from(from) {
+            count += slot_at(&self.pages, vpn);
+            from = vpn + 1;
+        }
+        count
+    }
+}
+
+/// Whether a page has a slot at hand, as a number.
+fn slot_at<L: Ledger, S: SwapSlot>(pages: &PageMap<StoredPage<L, S>>, vpn: u32) -> usize
+    requires { vpn < 2 ^ 20 }
+    ensures count { result ≡ cond (page_passes (λ page. is_kept (slot_of page.place))
+        (page_at pages.now vpn)) 1 0 }
+    ensures few { result ≤ 1 }
+{
+    if has_slot(pages, vpn) { 1 } else { 0 }
+}
+
+#[tactic(auto, using(crate::proofs::HeldLaws::slotted_by), unfolding(crate::specs::Paged::page_at))]
+fn has_slot<L: Ledger, S: SwapSlot>(pages: &PageMap<StoredPage<L, S>>, vpn: u32) -> bool
+    requires { vpn < 2 ^ 20 }
+    ensures { result ≡ page_passes (λ page. is_kept (slot_of page.place)) (page_at pages.now vpn) }
+{
+    let Some(place) = pages.place(vpn) else {
+        return false;
+    };
+    pages.at(place).has_slot()
 }
 
 /// Whether a page is resident, and whether it holds a frame, as numbers.

@@ -7,11 +7,11 @@ ghost use Rattle.sv32_table.specs.EntryAt.{has_table, ChangesEntry, AddsTable};
 ghost use Rattle.page_memory.specs.ReadOnly.{KeepsReadOnly};
 ghost use Rattle.paged_memory.specs.Paged.{page_at, memory_of};
 ghost use Rattle.page_store.specs.PageValue.{content, Backed, failures_at, kept_digest};
-ghost use Rattle.page_store.specs.Moves.{IfResident};
+ghost use Rattle.page_store.specs.Moves.{CalledOnce, IfResident};
 ghost use Rattle.paged_memory.specs.moves.Filling.{IsAbsent, IsUnchanged, dropped, fault_of, BroughtIn};
 ghost use Rattle.paged_memory.specs.moves.Filling.{RefusesAbsent};
 ghost use Rattle.paged_memory.specs.moves.Moving.{ComesIn, RefusesIn, SameCaches, SameEntries};
-ghost use Rattle.paged_memory.specs.moves.Moving.{SameFailures};
+ghost use Rattle.paged_memory.specs.moves.Moving.{CallsOnce, SameFailures};
 
 use crate::eviction::state_in;
 use crate::memory::PagedMemory;
@@ -49,6 +49,7 @@ impl<L: Ledger, S: SwapSlot> PagedMemory<L, S> {
         requires { vpn < 2 ^ 20 }
         ensures ok { OnOk result (ComesIn S.content S.honest frame vpn self.old self.new) }
         ensures passed { OnOk result (SameFailures S.failures vpn self.old self.new) }
+        ensures called { CallsOnce S.called vpn self.old self.new }
         ensures refused { IfErr result (λ back.
             RefusesIn S.content S.honest S.failures frame vpn back.0 back.1 self.old self.new) }
         ensures memory { S.honest → memory_of S.content self.new ≡ memory_of S.content self.old }
@@ -78,6 +79,7 @@ fn is_absent<L: Ledger, S: SwapSlot>(page: &StoredPage<L, S>) -> bool
 }
 
 /// Brings an absent page into a frame, and maps it.
+#[tactic(auto, using(crate::proofs::move_laws::CallLaws::then_dropped))]
 fn bring_page_in<L: Ledger, S: SwapSlot>(
     page: &mut StoredPage<L, S>,
     tables: &mut PageTables,
@@ -89,6 +91,7 @@ fn bring_page_in<L: Ledger, S: SwapSlot>(
     ensures ok { OnOk result (BroughtIn S.content S.honest frame page.old page.new) }
     ensures passed { OnOk result (failures_at S.failures page.new.place ≡
         failures_at S.failures page.old.place) }
+    ensures called { CalledOnce S.called page.old.place page.new.place }
     ensures refused { IfErr result (λ back. RefusesAbsent S.content S.honest S.failures frame
         (has_table tables.old vpn) page.old page.new back.0 back.1) }
     ensures entries { OnOk result (ChangesEntry tables.old tables.new vpn

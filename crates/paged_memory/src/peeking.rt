@@ -2,8 +2,8 @@
 
 ghost use Rattle.std.specs.Prelude.{◌≡◌, ◌+◌, ◌<◌, ◌≤◌, ◌^◌, Some, IfErr, OnErr, OnOk, length};
 ghost use Rattle.page_memory.specs.Words.{page_number, page_offset};
-ghost use Rattle.paged_memory.specs.moves.Filling.{failures_of};
-ghost use Rattle.paged_memory.specs.moves.Moving.{DoesNotShow, LeavesLookedAt, OnlyPages};
+ghost use Rattle.paged_memory.specs.moves.Filling.{PageCalledOnce, failures_of};
+ghost use Rattle.paged_memory.specs.moves.Moving.{CallsOnce, DoesNotShow, LeavesLookedAt, OnlyPages};
 ghost use Rattle.paged_memory.specs.moves.Moving.{SameFailures, ShowsIn};
 ghost use Rattle.page_memory.specs.ReadOnly.{KeepsReadOnly};
 ghost use Rattle.paged_memory.specs.Paged.{page_at, memory_of};
@@ -38,6 +38,7 @@ impl<L: Ledger, S: SwapSlot> PagedMemory<L, S> {
             (length bytes.old) ≡ Some bytes.new) }
         ensures passed { OnOk result (SameFailures S.failures
             (page_number address) self.old self.new) }
+        ensures called { CallsOnce S.called (page_number address) self.old self.new }
         ensures unread { OnErr result (bytes.new ≡ bytes.old) }
         ensures refused { IfErr result (DoesNotShow S.content S.honest S.failures address self.old
             self.new) }
@@ -69,6 +70,7 @@ fn read_page<L: Ledger, S: SwapSlot>(
         (length bytes.old) bytes.new) }
     ensures passed { OnOk result (failures_of S.failures (page_at pages.new vpn) ≡
         failures_of S.failures (page_at pages.old vpn)) }
+    ensures called { PageCalledOnce S.called (page_at pages.old vpn) (page_at pages.new vpn) }
     ensures unread { OnErr result (bytes.new ≡ bytes.old) }
     ensures refused { IfErr result (RefusesPeek S.content S.honest S.failures pages.old pages.new
         vpn) }

@@ -15,7 +15,7 @@ use Rattle.flat_machine.specs.Schedule.{room, written_out}
 use Rattle.flat_machine.specs.declared.end.End.{End}
 use Rattle.flat_machine.specs.declared.end.KillCause.{KillCause}
 use Rattle.machine_core.specs.Applying.{Applies, Runs, ServesEvent}
-use Rattle.machine_core.specs.CollectEvent.{CollectsTo, CollectsOnce, not_yet, freed, dirty, no_slot, no_memory}
+use Rattle.machine_core.specs.CollectEvent.{CollectsTo, CollectsOnce, not_yet, freed, dirty, no_slot}
 use Rattle.machine_core.specs.Machine.{CoreValue}
 use Rattle.machine_core.specs.MachineRun.{step_reply, ChangesOne, RefusesEvent, StepsHart, SweepsOnce}
 use Rattle.machine_core.specs.Opening.{AllBegin}
@@ -160,7 +160,6 @@ module _ {S : Type 0} (hart : ℕ) where
       beside process process' (copied_none vpn job process.memory process'.memory how.saving.moves) how.saving.stays
   looked_stays vpn old new process process' answer (no_slot how jobs told) =
       beside process process' (mapped_none vpn process.memory process'.memory how.returns.mapped.moves) how.returns.mapped.stays
-  looked_stays vpn old new process process' answer (no_memory how jobs told) = stays_same process process' how.leaves.stays
 
   module _ (held : S → List ℕ) (honest : Type 0) where
     step_stays : (why : SliceStop) (old new : SpaceValue S) → StepsOnce held honest hart why old new → Stays old new
@@ -185,13 +184,10 @@ module _ {S : Type 0} (hart : ℕ) where
       saving_stays saved pager pager' process process' answer ends =
           elim ends [
             | inl passed ↦ beside process process' (saved_none saved passed.0.frame process.memory process'.memory passed.0.settles.moves) passed.0.settles.stays
-            | inr failed ↦ elim failed [
-              | inl back ↦
-                  stays_then process back.0.between process'
-                  (beside process back.0.between (again_none _ saved process.memory back.0.between.memory back.0.settles.moves) back.0.settles.stays)
-                  (beside back.0.between process' (mapped_none saved.vpn back.0.between.memory process'.memory back.0.returns.mapped.moves) back.0.returns.mapped.stays)
-              | inr left ↦ beside process process' (again_none _ saved process.memory process'.memory left.0.settles.moves) left.0.settles.stays
-            ]
+            | inr back ↦
+                stays_then process back.0.between process'
+                (beside process back.0.between (again_none _ saved process.memory back.0.between.memory back.0.settles.moves) back.0.settles.stays)
+                (beside back.0.between process' (mapped_none saved.vpn back.0.between.memory process'.memory back.0.returns.mapped.moves) back.0.returns.mapped.stays)
           ]
 
       saved_stays : (old new : CoreValue S) (reply : Reply) (key : Key) → SavesOnce held honest failures key old new reply → FirstStays old.processes new.processes

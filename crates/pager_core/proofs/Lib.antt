@@ -1,1 +1,2 @@
 mod Admission
+mod Restoration

@@ -1,5 +1,5 @@
 -- The frames that are free and the replacement list, together: what each call of the pager does to both.
-use Rattle.std.specs.Prelude.{ℕ, ◌+◌, ◌-◌, ◌^◌, ◌||◌, Bool, true, false, not, min, List, [], ◌∷◌, Option, Some, None, Result, Ok, Err, if◌then◌else◌}
+use Rattle.std.specs.Prelude.{ℕ, ◌+◌, ◌-◌, ◌^◌, ◌||◌, Bool, true, false, not, min, List, [], ◌∷◌, Option, Some, None, Result, Ok, Err, is_ok, if◌then◌else◌}
 use Rattle.frame_pool.specs.FrameValue.{FrameValue}
 use Rattle.frame_pool.specs.FramePoolValue.{full_pool}
 use Rattle.clock_policy.specs.declared.key.Key.{Key}
@@ -8,7 +8,7 @@ use Rattle.clock_policy.specs.declared.answer.Bit.{Bit}
 use Rattle.clock_policy.specs.declared.answer.Verdict.{Verdict}
 use Rattle.clock_policy.specs.declared.answer.Verdict.TheVariants.{GoOn, Victim}
 use Rattle.clock_policy.specs.declared.refusal.Refusal.{Refusal}
-use Rattle.clock_policy.specs.ClockPro.{ClockState, opening_state, kind_of, is_shadow, is_full, answered, admitted}
+use Rattle.clock_policy.specs.ClockPro.{ClockState, opening_state, kind_of, is_shadow, is_full, answered, admitted, restored}
 use Rattle.pager_core.specs.declared.counts.Tallies.{Tallies}
 use Rattle.pager_core.specs.declared.refusal.AdmitRefusal.{AdmitRefusal}
 use Rattle.pager_core.specs.declared.refusal.AdmitRefusal.TheVariants.{AlreadyResident, NoFrame}
@@ -77,6 +77,10 @@ pager_answered bit pager = record pager {
 }
 
 -- ---- what else happens to the list
+
+-- whether the list takes a page back that could not leave its frame: it is not resident, and not each frame has its page
+unfoldable pub takes_back : Key → ClockState → Bool
+takes_back key list = is_ok (restored key list).1
 
 abbrev pub with_list : ClockState → PagerState → PagerState
 with_list list pager = record pager { list = list }

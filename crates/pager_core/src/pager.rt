@@ -4,7 +4,8 @@ ghost use Rattle.std.specs.Prelude.{◌≡◌, ◌≢◌, ◌+◌, ◌*◌, ◌<
 ghost use Rattle.clock_policy.specs.ClockPro.{question_of, answered, restored, withdrawn, purged, purge_count, kind_of};
 ghost use Rattle.clock_policy.specs.Lawful.{Lawful};
 ghost use Rattle.clock_policy.specs.Bound.{answers_left, NothingResident};
-ghost use Rattle.pager_core.specs.Pager.{full_pager, is_listed_resident, admission_refused, admitted_with, pager_answered, with_list};
+ghost use Rattle.pager_core.specs.Pager.{full_pager, is_listed_resident, admission_refused, admitted_with};
+ghost use Rattle.pager_core.specs.Pager.{pager_answered, takes_back, with_list};
 ghost use Rattle.pager_core.specs.Refusals.{RefusesAdmission, list_refusal};
 
 use crate::counts::{Counts, Tallies, tally};
@@ -139,12 +140,21 @@ impl<L: Ledger, C: Clock> Pager<L, C> {
         Ok(verdict)
     }
 
+    /// Whether the list would take a victim back: it is not resident, and not each frame has its page.
+    #[tactic(auto, using(crate::proofs::Restoration::restorations))]
+    pub fn takes_back(&self, key: Key) -> bool
+        ensures { result ≡ takes_back key self.now.list }
+    {
+        match self.list.kind_of(key) {
+            None | Some(EntryKind::Shadow) => !self.list.is_full(),
+            Some(EntryKind::Hot | EntryKind::Test | EntryKind::Cold) => false,
+        }
+    }
+
     /// Takes a victim back that could not leave its frame.
     pub fn restore(&mut self, key: Key) -> Result<(), Refusal>
-        ensures moved { OnOk result (self.new ≡ with_list (restored key self.old.list).0 self.old) }
-        ensures exact { result ≢ Err Refusal.NoMemory → result ≡ (restored key self.old.list).1 }
-        ensures memory { result ≡ Err Refusal.NoMemory → IsOk (restored key self.old.list).1 }
-        ensures grows { result ≡ Err Refusal.NoMemory → kind_of key self.old.list.entries ≡ None }
+        ensures moved { self.new ≡ with_list (restored key self.old.list).0 self.old }
+        ensures exact { result ≡ (restored key self.old.list).1 }
         ensures err { OnErr result (self.new ≡ self.old) }
         ensures lawful { Lawful self.new.list }
     {

@@ -14,7 +14,7 @@ use crate::locking::{ROUNDS, lock_held};
 use crate::shared::Shared;
 use clock_policy::{Clock, Key};
 use held_machine::{Desk, Held};
-use machine_sides::{Looked, Purging, SaveOutcome, Swept};
+use machine_sides::{Looked, PurgeRefusal, SaveOutcome, Swept};
 use page_store::SavedJob;
 use std::snapshot::Snapshot;
 use std::sync::Wait;
@@ -216,7 +216,7 @@ impl<L: Ledger, S: SwapSlot, C: Clock> Shared<L, S, C> {
         &self,
         rt: &R,
         number: u32,
-    ) -> Option<HoldOfAll<L, S, C, Option<Purging<S>>>>
+    ) -> Option<HoldOfAll<L, S, C, Option<Result<(), PurgeRefusal>>>>
         ensures none { IsNone result ↔ (self.now.processes ≤ number) }
         ensures some { IfSome result (λ hold.
             PurgesHeld number hold.desk.before.value hold.desk.after.value

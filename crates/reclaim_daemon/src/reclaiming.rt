@@ -14,7 +14,6 @@ use crate::shared::Shared;
 use crate::writing_ahead::{Ahead, Rest};
 use crate::writing_out::write_slot;
 use clock_policy::{Clock, Key};
-use flat_machine::KillCause;
 use machine_limits::{MOST_HARTS, MOST_PROCESSES};
 use machine_sides::{Looked, SaveOutcome, Swept};
 use page_store::SaveJob;
@@ -219,10 +218,6 @@ fn let_go<L: Ledger, S: SwapSlot, C: Clock, G: Gate, R: Wait>(
                 kill_if_spent(rt, shared.locks(), key.process);
                 return false;
             }
-            Looked::NotRestored(_) => {
-                shared.locks().kill(rt, key.process, KillCause::NoMemory);
-                return false;
-            }
             Looked::NotLeaving => return false,
         }
     }
@@ -272,10 +267,6 @@ fn save<L: Ledger, S: SwapSlot, C: Clock, G: Gate, R: Wait>(
         SaveOutcome::Freed => true,
         SaveOutcome::ResidentAgain(_) => {
             kill_if_spent(rt, shared.locks(), key.process);
-            false
-        }
-        SaveOutcome::NotRestored { .. } => {
-            shared.locks().kill(rt, key.process, KillCause::NoMemory);
             false
         }
         SaveOutcome::WrongPage(_) => false,

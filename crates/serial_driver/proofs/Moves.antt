@@ -13,7 +13,7 @@ use Rattle.flat_machine.specs.declared.end.End.TheVariants.{Killed}
 use Rattle.flat_machine.specs.declared.end.KillCause.{KillCause}
 use Rattle.flat_machine.specs.Schedule.{written_out}
 use Rattle.machine_core.specs.Applying.{Applies}
-use Rattle.machine_core.specs.CollectEvent.{CollectsTo, not_yet, freed, dirty, no_slot, no_memory}
+use Rattle.machine_core.specs.CollectEvent.{CollectsTo, not_yet, freed, dirty, no_slot}
 use Rattle.machine_core.specs.Machine.{CoreValue}
 use Rattle.machine_core.specs.MachineRun.{RefusesEvent, StepsHart}
 use Rattle.machine_core.proofs.TotalLaws.{get_set_same, get_set_other}
@@ -121,7 +121,6 @@ module _ {S : Type 0} where
   collected_quiet vpn old new process process' answer (freed how jobs told) = quiet_beside process process' how.drops.stays
   collected_quiet vpn old new process process' answer (dirty job how jobs told) = quiet_beside process process' how.saving.stays
   collected_quiet vpn old new process process' answer (no_slot how jobs told) = quiet_beside process process' how.returns.mapped.stays
-  collected_quiet vpn old new process process' answer (no_memory how jobs told) = quiet_same process process' (ap (λ (p : SpaceValue S). p) how.leaves.stays)
 
 module _ {S : Type 0} (held : S → List ℕ) (honest : Type 0) (failures : S → ℕ) where
   -- the machine ends a process, for no limit
@@ -174,11 +173,8 @@ module _ {S : Type 0} (held : S → List ℕ) (honest : Type 0) (failures : S �
         | inr once ↦ one_quiet old.processes new.processes key.process once.process once.process' once.found once.processes
             (elim once.ends [
               | inl passed ↦ quiet_beside once.process once.process' passed.0.settles.stays
-              | inr failed ↦ elim failed [
-                | inl back ↦ quiet_then once.process back.0.between once.process' (quiet_beside once.process back.0.between back.0.settles.stays)
-                    (quiet_beside back.0.between once.process' back.0.returns.mapped.stays)
-                | inr left ↦ quiet_beside once.process once.process' left.0.settles.stays
-              ]
+              | inr back ↦ quiet_then once.process back.0.between once.process' (quiet_beside once.process back.0.between back.0.settles.stays)
+                  (quiet_beside back.0.between once.process' back.0.returns.mapped.stays)
             ]) number
       ]
   event_moves (PageIn key) turn old new reply unlimited in_turn applies number =

@@ -20,7 +20,7 @@ use Rattle.machine_core.specs.declared.event.Event.{Event}
 use Rattle.machine_core.specs.declared.event.Event.TheVariants.{Step, Notice, Sweep, Collect, Saved, PageIn, Kill, Purge}
 use Rattle.machine_core.specs.declared.event.Reply.{Reply}
 use Rattle.machine_core.specs.Applying.{Applies}
-use Rattle.machine_core.specs.CollectEvent.{CollectsTo, not_yet, freed, dirty, no_slot, no_memory}
+use Rattle.machine_core.specs.CollectEvent.{CollectsTo, not_yet, freed, dirty, no_slot}
 use Rattle.machine_core.specs.Faithful.{IsFaithful}
 use Rattle.machine_core.specs.Machine.{CoreValue, IsMachine, IsSaveOut, jobs_where, total}
 use Rattle.machine_core.specs.MachineRun.{of_process}
@@ -159,8 +159,6 @@ module _ {S : Type 0} (held : S → List ℕ) (honest : Type 0) (failures : S �
       let page : key_of job.process job.vpn ≡ key = ap (λ p. key_of p job.vpn) (how.saving.moves.process ∙ number) ∙ ap (λ v. key_of key.process v) how.saving.moves.vpn_is in
       subst (λ a. AreOut (owed_save (collect_owes key a)) new.jobs) (sym told) (job, (jobs ∙ ap (λ l. l ++ job ∷ []) none, page))
   collected_out key old new process process' answer number none (no_slot how jobs told) =
-      out_none _ old.jobs new.jobs (no_save_collected key answer (ap is_dirty told)) none jobs
-  collected_out key old new process process' answer number none (no_memory how jobs told) =
       out_none _ old.jobs new.jobs (no_save_collected key answer (ap is_dirty told)) none jobs
 
   -- where a process is ended or gives back what it has, none is out still

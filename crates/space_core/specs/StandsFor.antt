@@ -5,7 +5,7 @@ use Rattle.elf_image.specs.Image.{ImageContent}
 use Rattle.decoded_pages.specs.declared.pages.DecodedPages.{DecodedPages}
 use Rattle.decoded_pages.specs.Code.{ShowsAll}
 use Rattle.paged_memory.specs.Paged.{PagedValue, memory_of}
-pub use Rattle.paged_memory.specs.Showing.{rights_of, paged_rights, is_purged}
+pub use Rattle.paged_memory.specs.Showing.{rights_of, is_purged}
 use Rattle.paged_memory.specs.Showing.{ShowsFlat}
 use Rattle.paged_memory.specs.Whole.{harts_in}
 use Rattle.flat_machine.specs.declared.end.End.{End}

@@ -6,7 +6,8 @@ ghost use Rattle.std.specs.Option.{option_or};
 ghost use Rattle.paged_memory.specs.cleaning.Copies.{LeavesCopies};
 ghost use Rattle.paged_memory.specs.moves.Moving.{ForgetsUse, BeginsToLeave, DoesNotLeave};
 ghost use Rattle.paged_memory.specs.Paged.{memory_of};
-ghost use Rattle.paged_memory.specs.Whole.{accessed_in, frames_among, residents_among, stage_in};
+ghost use Rattle.paged_memory.specs.Whole.{accessed_in, frames_among, residents_among};
+ghost use Rattle.paged_memory.specs.Whole.{slots_within, stage_in};
 ghost use Rattle.space_core.specs.Caches.{noticed, if_killed};
 ghost use Rattle.space_core.specs.StandsFor.{OfFlat, own_ending};
 
@@ -77,6 +78,13 @@ impl<L: Ledger, S: SwapSlot> Space<L, S> {
         ensures few_framed { result.framed ≤ 2 ^ 20 }
     {
         self.memory.held_pages()
+    }
+
+    /// Counts the pages that have a slot at hand.
+    pub fn slots_at_hand(&self) -> usize
+        ensures { result ≡ slots_within self.now.memory }
+    {
+        self.memory.slots_at_hand()
     }
 
     /// Clears the mark that a resident page was used, and answers what it was, or `None` where the page is not resident.

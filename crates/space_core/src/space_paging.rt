@@ -7,8 +7,9 @@ ghost use Rattle.page_memory.specs.Words.{page_number, page_offset};
 ghost use Rattle.flat_machine.specs.Process.{Process, flat_run, opening};
 ghost use Rattle.flat_machine.specs.Schedule.{written_out};
 ghost use Rattle.paged_memory.specs.cleaning.Copies.{LeavesCopies};
-ghost use Rattle.paged_memory.specs.moves.Moving.{ComesIn, DoesNotShow, GivesIn, HasNothingBelow};
-ghost use Rattle.paged_memory.specs.moves.Moving.{LeavesLookedAt, LiesBehindIn, RefusesIn, SameCaches};
+ghost use Rattle.paged_memory.specs.moves.Moving.{CallsOnce, ComesIn, DoesNotShow, GivesIn};
+ghost use Rattle.paged_memory.specs.moves.Moving.{HasNothingBelow, LeavesLookedAt, LiesBehindIn};
+ghost use Rattle.paged_memory.specs.moves.Moving.{RefusesIn, SameCaches};
 ghost use Rattle.paged_memory.specs.moves.Moving.{SameEntries, SameFailures, SameTablesIn};
 ghost use Rattle.paged_memory.specs.moves.Moving.{SavesNone, SavesSome, ShowsIn, with_pages};
 ghost use Rattle.paged_memory.specs.Paged.{memory_of};
@@ -53,6 +54,7 @@ impl<L: Ledger, S: SwapSlot> Space<L, S> {
             self.new.memory) }
         ensures passed { OnOk result (SameFailures S.failures vpn self.old.memory
             self.new.memory) }
+        ensures called { CallsOnce S.called vpn self.old.memory self.new.memory }
         ensures refused { IfErr result (λ back.
             RefusesIn S.content S.honest S.failures frame vpn back.0 back.1 self.old.memory
             self.new.memory) }
@@ -83,6 +85,7 @@ impl<L: Ledger, S: SwapSlot> Space<L, S> {
             Some flat → bytes_of flat.memory address (length bytes.old) ≡ Some bytes.new) }
         ensures passed { OnOk result (SameFailures S.failures
             (page_number address) self.old.memory self.new.memory) }
+        ensures called { CallsOnce S.called (page_number address) self.old.memory self.new.memory }
         ensures unread { OnErr result (bytes.new ≡ bytes.old) }
         ensures refused { IfErr result (DoesNotShow S.content S.honest S.failures address
             self.old.memory self.new.memory) }

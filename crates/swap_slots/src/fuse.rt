@@ -62,6 +62,8 @@ impl SwapSlot for FuseSlot {
 
     ghost failures = { λ slot. slot.failures };
 
+    ghost called = { λ _ _. Unit {0} };
+
     ghost honest = { ⊤ };
 
     fn is_known_honest() -> bool

@@ -38,6 +38,8 @@ impl SwapSlot for MemorySlot {
 
     ghost failures = { λ _. 0 };
 
+    ghost called = { λ _ _. Unit {0} };
+
     ghost honest = { ⊤ };
 
     fn is_known_honest() -> bool

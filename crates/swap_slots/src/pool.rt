@@ -1,6 +1,6 @@
 //! The pool of free slots: the one that was given back last is taken first.
 
-ghost use Rattle.std.specs.Prelude.{◌≡◌, ◌≤◌, ◌↔◌, [], ◌∷◌, ◌++◌, length, vec_len, IsTrue, OnOk, OnErr, IfErr, IsErr, IsNone, IfNone, IfSome};
+ghost use Rattle.std.specs.Prelude.{◌≡◌, ◌≤◌, ◌<◌, ◌↔◌, [], ◌∷◌, ◌++◌, length, vec_len, IsTrue, OnOk, OnErr, IfErr, IsErr, IsNone, IfNone, IfSome};
 
 use std::marker::Model;
 
@@ -77,7 +77,15 @@ impl<S> SlotPool<S> {
         if self.free.len() == self.size {
             return Err(slot);
         }
-        self.free.push_reserved(slot);
+        self.put_back(slot);
         Ok(())
+    }
+
+    /// Gives a slot back for which there is room. Takes constant time.
+    pub fn put_back(&mut self, slot: S)
+        requires { length self.old.free < self.old.size }
+        ensures { self.new ≡ record self.old { free = self.old.free ++ slot ∷ [] } }
+    {
+        self.free.push_reserved(slot);
     }
 }

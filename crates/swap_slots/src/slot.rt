@@ -18,6 +18,10 @@ pub trait SwapSlot: Drop {
     /// How often the device failed.
     ghost failures: { Self → ℕ };
 
+    /// What one call of `save` or `load` makes of a slot. Nothing else is known of it: where it holds of a slot before and after,
+    /// one call was made between them, and no more.
+    ghost called: { Self → Self → Type 0 };
+
     /// Whether slots of this kind keep what was saved. A kind that can't know, as one over a file, takes `⊥`.
     ghost honest: { Type 0 };
 
@@ -31,7 +35,8 @@ pub trait SwapSlot: Drop {
         ensures saved { honest → OnOk result (content self.new ≡ page.now) }
         ensures passed { OnOk result (failures self.new ≡ failures self.old) }
         ensures fault { OnErr result (Rose (failures self.old) (failures self.new)) }
-        ensures counted { failures self.old ≤ failures self.new };
+        ensures counted { failures self.old ≤ failures self.new }
+        ensures called { called self.old self.new };
 
     /// Loads the page that was saved. A load that fails leaves open what `page` holds, but not what the slot holds.
     fn load(&mut self, page: &mut [u8; 4096]) -> Result<(), SlotFault>
@@ -39,7 +44,8 @@ pub trait SwapSlot: Drop {
         ensures kept { honest → content self.new ≡ content self.old }
         ensures passed { OnOk result (failures self.new ≡ failures self.old) }
         ensures fault { OnErr result (Rose (failures self.old) (failures self.new)) }
-        ensures counted { failures self.old ≤ failures self.new };
+        ensures counted { failures self.old ≤ failures self.new }
+        ensures called { called self.old self.new };
 
     /// How often the device failed. The count stays at its type's largest number.
     fn failures(&self) -> u64

@@ -42,6 +42,8 @@ impl SwapSlot for FlipSlot {
 
     ghost failures = { λ _. 0 };
 
+    ghost called = { λ _ _. Unit {0} };
+
     ghost honest = { ⊥ };
 
     fn is_known_honest() -> bool

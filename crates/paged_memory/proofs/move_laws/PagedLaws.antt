@@ -1,5 +1,5 @@
 -- What keeps a process's pages, tables and caches together when one page changes.
-use Rattle.std.specs.Prelude.{◌≡◌, ℕ, ◌^◌, ◌<◌, ◌==◌, true, false, cond, if◌then◌else◌, Some, None, option_map, option_and_then, is_some, List, map, All, refl}
+use Rattle.std.specs.Prelude.{◌≡◌, ℕ, ◌^◌, ◌<◌, ◌==◌, true, false, cond, if◌then◌else◌, Option, Some, None, option_map, option_and_then, is_some, List, map, All, refl}
 use Rattle.std.proofs.Common.{sym, ap, ◌∙◌, subst, eqb-true, eq-eqb, arith}
 use Rattle.std.proofs.lemmas.List.Elements.{All-map, All-weaker}
 use Rattle.std.specs.Ordering.{nat_cmp, eq_by_cmp}
@@ -17,7 +17,8 @@ use Rattle.paged_memory.specs.Seen.{frame_seen, rights_seen, is_used}
 use Rattle.paged_memory.specs.Soundness.{IsMapped}
 use Rattle.paged_memory.proofs.SoundnessLaws.{ChangesAt, Unheld, Unmarked, Stays, changed_unheld, changed_held, changed_unmarked, changed_doomed}
 use Rattle.paged_memory.specs.Calls.{ChangesBy}
-use Rattle.paged_memory.specs.moves.Filling.{failures_of}
+use Rattle.page_store.specs.Moves.{CalledOnce, IfAbsent}
+use Rattle.paged_memory.specs.moves.Filling.{IsAbsent, PageCalledOnce, failures_of}
 use Rattle.paged_memory.specs.Paged.{seen_of, page_at, seen_at, flat_page, flat_pages, ArePlaced, Holds, IsConstant, ChangesPage}
 
 pub swap_key : {A : Type 0} (q number : ℕ) (x y : A) → cond (eq_by_cmp nat_cmp q number) x y ≡ (if q == number then x else y)
@@ -84,6 +85,21 @@ pub failures_placed : {S : Type 0} (failures : S → ℕ) (pages : List (ℕ × 
 failures_placed failures pages number place page page' at is same =
     ap (failures_of failures) (page_at-with_value pages number place page' at number ∙ choice_here number (Some page') (page_at pages number))
     ∙ same ∙ sym (ap (failures_of failures) (page_at-place pages number place page at is))
+
+-- the same of a call of its slot
+pub called_placed : {S : Type 0} (called : S → S → Type 0) (pages : List (ℕ × PageValue S)) (number place : ℕ) (page page' : PageValue S) → place_of number pages ≡ Some place → value_at place pages ≡ Some page
+    → CalledOnce called page.place page'.place → PageCalledOnce called (page_at pages number) (page_at (with_value pages place page') number)
+called_placed called pages number place page page' at is once =
+    subst (λ o. PageCalledOnce called o (page_at (with_value pages place page') number)) (sym (page_at-place pages number place page at is))
+    (subst (PageCalledOnce called (Some page)) (sym (page_at-with_value pages number place page' at number ∙ choice_here number (Some page') (page_at pages number))) once)
+
+-- no slot of a page was to be called that is not away
+pub called_nowhere : {S : Type 0} (called : S → S → Type 0) (pages : List (ℕ × PageValue S)) (number : ℕ) → (¬ IsAbsent (page_at pages number)) → PageCalledOnce called (page_at pages number) (page_at pages number)
+called_nowhere {S} called pages number present = by_page (page_at pages number) present
+  where
+    by_page : (o : Option (PageValue S)) → (¬ IsAbsent o) → PageCalledOnce called o o
+    by_page None present = tt
+    by_page (Some page) present = λ copy is. absurd (present (subst (λ p. IfAbsent p (Unit {0}) (λ _. Unit {0})) (sym is) tt))
 
 pub choice_other : {A : Type 0} (q number : ℕ) (x y : A) → (q == number) ≡ false → (if q == number then x else y) ≡ y
 choice_other q number x y other = ap (λ b. cond b x y) other

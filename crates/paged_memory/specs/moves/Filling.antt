@@ -1,9 +1,9 @@
 -- A page of a process is brought into a frame.
-use Rattle.std.specs.Prelude.{◌≡◌, ℕ, Bool, false, IsFalse, Option, Some, None, List}
+use Rattle.std.specs.Prelude.{◌≡◌, ℕ, Bool, false, IfSome, IsFalse, Option, Some, None, List}
 use Rattle.frame_pool.specs.FrameValue.{FrameValue}
 use Rattle.swap_slots.specs.Slot.{Rose}
 use Rattle.page_store.specs.PageValue.{PageValue, Place, Fresh, Away, content, Backed, failures_at, kept_digest, Matches}
-use Rattle.page_store.specs.Moves.{Filled, IfAbsent, IfAway, IfResident}
+use Rattle.page_store.specs.Moves.{CalledOnce, Filled, IfAbsent, IfAway, IfResident}
 use Rattle.page_store.specs.Keeping.{is_unbacked, Keeping, NoSlot, Saved, Unbacked, Cleaning, CopyOut}
 use Rattle.page_store.specs.declared.refusal.FillFault.{FillFault}
 use Rattle.page_store.specs.declared.refusal.FillFault.TheVariants as fill
@@ -33,6 +33,10 @@ module _ {S : Type 0} where
   abbrev pub failures_of : (S → ℕ) → Option (PageValue S) → Option ℕ
   failures_of failures None = None
   failures_of failures (Some page) = failures_at failures page.place
+
+  -- the slot in which a page lay was called once
+  abbrev pub PageCalledOnce : (S → S → Type 0) → Option (PageValue S) → Option (PageValue S) → Type 0
+  PageCalledOnce called old new = IfSome old (λ page. IfSome new (λ page'. CalledOnce called page.place page'.place))
 
   -- where a page is that gives up its frame unchanged
   abbrev pub dropped : Keeping S → Option (Place S)

@@ -14,7 +14,7 @@ use Rattle.sv32_table.specs.EntryAt.{entry_at, ChangesEntry, SameTables, AddsTab
 use Rattle.tlb_core.specs.Cache.{doomed}
 use Rattle.paged_memory.specs.Calls.{ChangesBy, Leaves, RefusesLeave}
 use Rattle.paged_memory.specs.cleaning.Copies.{LeavesCopies}
-use Rattle.paged_memory.specs.moves.Filling.{BroughtIn, RefusesPageIn, failures_of}
+use Rattle.paged_memory.specs.moves.Filling.{BroughtIn, PageCalledOnce, RefusesPageIn, failures_of}
 use Rattle.paged_memory.specs.moves.GivingBack.{GivesNothing, GivesOne, LiesBehind, SavesOne}
 use Rattle.paged_memory.specs.moves.Leaving.{CollectsAt, ChangesSaved, Frees, RefusesSaved, IsOut, BringsBack}
 use Rattle.paged_memory.specs.Paged.{PagedValue, page_at, memory_of}
@@ -234,6 +234,10 @@ module _ {S : Type 0} (held : S → List ℕ) (honest : Type 0) where
 -- the slot of the page of a number tells of no failure more
 abbrev pub SameFailures : {S : Type 0} → (S → ℕ) → ℕ → PagedValue S → PagedValue S → Type 0
 SameFailures failures vpn old new = failures_of failures (page_at new.pages vpn) ≡ failures_of failures (page_at old.pages vpn)
+
+-- the slot in which the page of a number lay was called once
+abbrev pub CallsOnce : {S : Type 0} → (S → S → Type 0) → ℕ → PagedValue S → PagedValue S → Type 0
+CallsOnce called vpn old new = PageCalledOnce called (page_at old.pages vpn) (page_at new.pages vpn)
 
 -- pages give back what they have
 

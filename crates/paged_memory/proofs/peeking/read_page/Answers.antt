@@ -1,7 +1,8 @@
 use Rattle.std.proofs.Common.{◌≡◌, refl, length, Some, option_map, sym, ap, ◌∙◌, subst}
 use Rattle.page_memory.specs.Entries.{place_of}
+use Rattle.paged_memory.specs.moves.Filling.{IsAbsent}
 use Rattle.paged_memory.specs.Peeking.{ShowsBytes, LeavesPage}
-use Rattle.paged_memory.proofs.move_laws.PagedLaws.{page_at-place, page_at-nowhere, failures_placed}
+use Rattle.paged_memory.proofs.move_laws.PagedLaws.{page_at-place, page_at-nowhere, called_nowhere, called_placed, failures_placed}
 use Rattle.paged_memory.proofs.PeekingLaws.{page_left, page_failed}
 use Rattle.paged_memory.proofs.peeking.read_page.Goals as goal
 
@@ -48,3 +49,22 @@ pub returns-in-Err-Device-clause-left : goal.returns-in-Err-Device-clause-left
 returns-in-Err-Device-clause-left g c =
     let at : place_of c.args.vpn c.args.pages.now ≡ Some c.in-Some.place = sym c.place.ensures.place ∙ c.in-Some.is in
     page_left g.S.SwapSlot.content g.S.SwapSlot.honest c.args.pages.now c.args.vpn c.in-Some.place c.at_mut.result.now c.read.new.self at c.at_mut.ensures.value c.read.ensures.state c.read.ensures.at_hand c.read.ensures.origin c.read.ensures.content c.read.ensures.digest
+
+pub returns-in_default-clause-called : goal.returns-in_default-clause-called
+returns-in_default-clause-called g c =
+    called_nowhere g.S.SwapSlot.called c.args.pages.now c.args.vpn (λ absent. subst IsAbsent (page_at-nowhere c.args.pages.now c.args.vpn (sym c.place.ensures.place ∙ c.in_default.is)) absent)
+
+pub returns-in-Ok-clause-called : goal.returns-in-Ok-clause-called
+returns-in-Ok-clause-called g c =
+    let at : place_of c.args.vpn c.args.pages.now ≡ Some c.in-Some.place = sym c.place.ensures.place ∙ c.in-Some.is in
+    called_placed g.S.SwapSlot.called c.args.pages.now c.args.vpn c.in-Some.place c.at_mut.result.now c.read.new.self at c.at_mut.ensures.value c.read.ensures.called
+
+pub returns-in-Err-Purged-clause-called : goal.returns-in-Err-Purged-clause-called
+returns-in-Err-Purged-clause-called g c =
+    let at : place_of c.args.vpn c.args.pages.now ≡ Some c.in-Some.place = sym c.place.ensures.place ∙ c.in-Some.is in
+    called_placed g.S.SwapSlot.called c.args.pages.now c.args.vpn c.in-Some.place c.at_mut.result.now c.read.new.self at c.at_mut.ensures.value c.read.ensures.called
+
+pub returns-in-Err-Device-clause-called : goal.returns-in-Err-Device-clause-called
+returns-in-Err-Device-clause-called g c =
+    let at : place_of c.args.vpn c.args.pages.now ≡ Some c.in-Some.place = sym c.place.ensures.place ∙ c.in-Some.is in
+    called_placed g.S.SwapSlot.called c.args.pages.now c.args.vpn c.in-Some.place c.at_mut.result.now c.read.new.self at c.at_mut.ensures.value c.read.ensures.called

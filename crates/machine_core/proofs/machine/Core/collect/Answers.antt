@@ -1,8 +1,13 @@
 -- The page is leaving, so that the list has room for it.
 use Rattle.std.proofs.Common.{sym, ap, ◌∙◌, inr, arith}
 use Rattle.machine_core.specs.CollectEvent.{collect_refusal}
-use Rattle.machine_core.proofs.Collects.{room, collected_back, collected_size, collected_told}
+use Rattle.machine_core.proofs.Collects.{can_return_at, room, collected_back, collected_size, collected_told}
 use Rattle.machine_core.proofs.machine.Core.collect.Goals as goal
+
+pub collect_at-looked-requires-clause-listed : goal.collect_at-looked-requires-clause-listed
+collect_at-looked-requires-clause-listed g c =
+    can_return_at c.self.inside.pager c.self.inside.slots c.self.inside.jobs.items c.self.inside.copies.items c.self.inside.processes.items c.as_mut_slice.result.now c.args.key
+    c.self.invariant.machine (ap (collect_refusal c.args.key) (sym c.as_slice.ensures.value) ∙ sym c.collect_refusal-refusal.ensures ∙ c.in_default.is) c.as_mut_slice.ensures.value
 
 pub keep-requires : goal.keep-requires
 keep-requires g c =

@@ -2,8 +2,12 @@
 use Rattle.std.proofs.Common.{refl, sym, ap, ◌∙◌, inr, arith}
 use Rattle.machine_core.specs.declared.event.Reply.TheVariants.{Purged}
 use Rattle.machine_core.specs.PurgeEvent.{purge_refusal}
-use Rattle.machine_core.proofs.PurgeEvents.{purged_back, purged_size, purged_once}
+use Rattle.machine_core.proofs.PurgeEvents.{has_room_at, purged_back, purged_size, purged_once}
 use Rattle.machine_core.proofs.machine.Core.purge.Goals as goal
+
+pub purge_at-requires-clause-room : goal.purge_at-requires-clause-room
+purge_at-requires-clause-room g c =
+    has_room_at c.self.inside.pager c.self.inside.slots c.self.inside.jobs.items c.self.inside.copies.items c.self.inside.processes.items c.as_mut_slice.result.now c.args.process c.self.invariant.machine c.as_mut_slice.ensures.value
 
 pub invariant_of-self : goal.invariant_of-self
 invariant_of-self g c = record {

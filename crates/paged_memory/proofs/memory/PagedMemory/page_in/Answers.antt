@@ -1,9 +1,9 @@
 use Rattle.std.proofs.Common.{◌≡◌, Some, Result, Ok, Err, OnOk, IfErr, ap, refl, sym, ◌∙◌, subst}
 use Rattle.page_memory.specs.Entries.{place_of, with_value}
-use Rattle.paged_memory.specs.moves.Filling.{IsAbsent, failures_of}
+use Rattle.paged_memory.specs.moves.Filling.{IsAbsent, PageCalledOnce, failures_of}
 use Rattle.paged_memory.specs.moves.Moving.{ComesIn, RefusesIn}
 use Rattle.paged_memory.specs.Paged.{PagedValue, flat_pages, page_at, memory_in, memory_of}
-use Rattle.paged_memory.proofs.move_laws.PagedLaws.{page_at-place, page_at-nowhere, failures_placed}
+use Rattle.paged_memory.proofs.move_laws.PagedLaws.{page_at-place, page_at-nowhere, called_nowhere, called_placed, failures_placed}
 use Rattle.paged_memory.proofs.ConstancyLaws.{SameUnwritten}
 use Rattle.paged_memory.proofs.move_laws.FillingLaws.{comes_in, holds_paged_in, memory_paged_in, unwritten_paged_in, pages_brought, pages_refused, entries_brought}
 use Rattle.paged_memory.proofs.memory.PagedMemory.page_in.Goals as goal
@@ -25,6 +25,25 @@ returns-then-not-is_absent-clause-refused g c =
           (λ absent. c.if-not-is_absent.ensures.other (subst IsAbsent (page_at-place c.self.inside.pages c.args.vpn c.in-Some.place c.at.result.now at c.at.ensures) absent)),
       (refl, refl),
     )
+
+pub returns-in_default-clause-called : goal.returns-in_default-clause-called
+returns-in_default-clause-called g c =
+    subst (λ (v : PagedValue _). PageCalledOnce g.S.SwapSlot.called (page_at v.pages c.args.vpn) (page_at v.pages c.args.vpn)) c.self.view_is
+    (called_nowhere g.S.SwapSlot.called c.self.inside.pages c.args.vpn (λ absent. subst IsAbsent (page_at-nowhere c.self.inside.pages c.args.vpn (sym c.place.ensures.place ∙ c.in_default.is)) absent))
+
+pub returns-then-not-is_absent-clause-called : goal.returns-then-not-is_absent-clause-called
+returns-then-not-is_absent-clause-called g c =
+    let at : place_of c.args.vpn c.self.inside.pages ≡ Some c.in-Some.place = sym c.place.ensures.place ∙ c.in-Some.is in
+    subst (λ (v : PagedValue _). PageCalledOnce g.S.SwapSlot.called (page_at v.pages c.args.vpn) (page_at v.pages c.args.vpn)) c.self.view_is
+    (called_nowhere g.S.SwapSlot.called c.self.inside.pages c.args.vpn
+    (λ absent. c.if-not-is_absent.ensures.other (subst IsAbsent (page_at-place c.self.inside.pages c.args.vpn c.in-Some.place c.at.result.now at c.at.ensures) absent)))
+
+pub returns-clause-called : goal.returns-clause-called
+returns-clause-called g c =
+    let at : place_of c.args.vpn c.self.inside.pages ≡ Some c.in-Some.place = sym c.place.ensures.place ∙ c.in-Some.is in
+    let pages = with_value c.self.inside.pages c.in-Some.place c.bring_page_in.new.page in
+    subst (λ (v : PagedValue _). PageCalledOnce g.S.SwapSlot.called (page_at v.pages c.args.vpn) (page_at pages c.args.vpn)) c.self.view_is
+    (called_placed g.S.SwapSlot.called c.self.inside.pages c.args.vpn c.in-Some.place c.at_mut.result.now c.bring_page_in.new.page at c.at_mut.ensures.value c.bring_page_in.ensures.called)
 
 pub invariant_of-self : goal.invariant_of-self
 invariant_of-self g c =

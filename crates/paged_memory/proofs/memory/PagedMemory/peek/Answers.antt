@@ -1,7 +1,7 @@
 use Rattle.std.proofs.Common.{◌≡◌, Some, ap, subst}
 use Rattle.std.specs.Prelude.{OnOk, length}
 use Rattle.page_memory.specs.Words.{page_number}
-use Rattle.paged_memory.specs.moves.Filling.{failures_of}
+use Rattle.paged_memory.specs.moves.Filling.{PageCalledOnce, failures_of}
 use Rattle.paged_memory.specs.Paged.{PagedValue, flat_pages, page_at, memory_in, memory_of}
 use Rattle.paged_memory.specs.Peeking.{bytes_of}
 use Rattle.paged_memory.proofs.ConstancyLaws.{SameUnwritten}
@@ -32,3 +32,8 @@ pub returns-clause-passed : goal.returns-clause-passed
 returns-clause-passed g c =
     subst (λ (v : PagedValue _). OnOk c.read_page.result (failures_of g.S.SwapSlot.failures (page_at c.read_page.new.pages (page_number c.args.address)) ≡ failures_of g.S.SwapSlot.failures (page_at v.pages (page_number c.args.address)))) c.self.view_is
     (subst (λ n. OnOk c.read_page.result (failures_of g.S.SwapSlot.failures (page_at c.read_page.new.pages n) ≡ failures_of g.S.SwapSlot.failures (page_at c.self.inside.pages n))) c.page_of.ensures.number c.read_page.ensures.passed)
+
+pub returns-clause-called : goal.returns-clause-called
+returns-clause-called g c =
+    subst (λ (v : PagedValue _). PageCalledOnce g.S.SwapSlot.called (page_at v.pages (page_number c.args.address)) (page_at c.read_page.new.pages (page_number c.args.address))) c.self.view_is
+    (subst (λ n. PageCalledOnce g.S.SwapSlot.called (page_at c.self.inside.pages n) (page_at c.read_page.new.pages n)) c.page_of.ensures.number c.read_page.ensures.called)

@@ -29,7 +29,7 @@ pub(crate) fn tells(
     told: &[(Option<End>, u64)],
 ) -> Result<(), Fail> {
     assert!(rt; report.audit);
-    assert_eq!(rt; endings(alloc, report)?.as_slice(), told);
+    assert!(rt; endings(alloc, report)?.as_slice() == told);
     Ok(())
 }
 
@@ -44,7 +44,7 @@ fn loads_that_fail_end_a_process(rt: HostRuntime) -> Result<(), Fail> {
         1000,
         AMPLE,
     )?;
-    assert_eq!(rt; report.page_ins, 13);
+    assert!(rt; report.page_ins == 13);
     tells(&rt, alloc, &report, &[(LOAD_FAILED, 46)])
 }
 
@@ -59,7 +59,7 @@ fn a_damaged_page_ends_a_process_at_once(rt: HostRuntime) -> Result<(), Fail> {
         1000,
         AMPLE,
     )?;
-    assert_eq!(rt; report.page_ins, 11);
+    assert!(rt; report.page_ins == 11);
     tells(&rt, alloc, &report, &[(DAMAGED, 46)])
 }
 

@@ -58,7 +58,7 @@ fn ends_over_fuses<L: Ledger>(
     let report = run_serial(alloc, &mut core, 1000, u64::MAX)?;
     let (end, steps, page_ins) = told;
     tells(rt, alloc, &report, &[(Some(end), steps)])?;
-    assert_eq!(rt; report.page_ins, page_ins, "{passes} calls");
+    assert!(rt; report.page_ins == page_ins, "{passes} calls");
     let same = does_what_it_does_flat(alloc, &core)?;
     assert!(rt; same, "{passes} calls");
     Ok(())

@@ -52,7 +52,7 @@ fn serves<L: Ledger>(
             }
         }
     }
-    assert_eq!(rt; (ran, other, core.end(0)), (told.0, told.1, Some(told.2)));
+    assert!(rt; (ran, other, core.end(0)) == (told.0, told.1, Some(told.2)));
     Ok(())
 }
 

@@ -104,18 +104,18 @@ fn keeps_a_page_in_its_file(rt: HostRuntime) -> Result<(), Fail> {
     let written = fs::read(&rt, middle.as_str())?;
     assert!(rt; written.is_empty());
     for (place, slot) in slots.iter().enumerate() {
-        assert_eq!(rt; slot.number() as usize, place);
+        assert!(rt; slot.number() as usize == place);
     }
     let slot = slots.get_mut(1).ok_or("no slot")?;
-    assert_eq!(rt; loaded(slot), Err(SlotFault));
+    assert!(rt; loaded(slot) == Err(SlotFault));
     for first in [1, 100] {
         let page = page_from(first);
-        assert_eq!(rt; slot.save(&page), Ok(()));
+        assert!(rt; slot.save(&page) == Ok(()));
         let written = fs::read(&rt, middle.as_str())?;
         assert!(rt; written.as_slice() == page.as_slice());
         assert!(rt; loaded(slot) == Ok(page));
     }
-    assert_eq!(rt; slot.failures(), 1);
+    assert!(rt; slot.failures() == 1);
     for number in 0..3 {
         fs::remove_file(&rt, path_of(&rt, prefix.as_str(), number)?.as_str())?;
     }
@@ -132,10 +132,10 @@ fn names_the_file_that_is_not_made(rt: HostRuntime) -> Result<(), Fail> {
         let Err(fault) = make_file_slots(&rt, prefix, 4) else {
             return Err("no fault".into());
         };
-        assert_eq!(rt; fault, FilesFault::CannotMake(FileName { prefix, number }));
+        assert!(rt; fault == FilesFault::CannotMake(FileName { prefix, number }));
         let wanted = format!(in rt.alloc(); "{prefix}.{number}: cannot read")?;
         let told = format!(in rt.alloc(); "{fault}")?;
-        assert_eq!(rt; told, wanted);
+        assert!(rt; told == wanted);
     }
     fs::remove_dir(&rt, folder.as_str())?;
     for number in 0..2 {
@@ -158,9 +158,9 @@ fn goes_on_after_short_and_interrupted_calls(rt: HostRuntime) {
     ] {
         let file = Reluctant::new(rt.alloc(), most, interrupted, ErrorKind::Interrupted);
         let mut slot = FileSlot::new(0, file);
-        assert_eq!(rt; slot.save(&page), Ok(()));
+        assert!(rt; slot.save(&page) == Ok(()));
         assert!(rt; loaded(&mut slot) == Ok(page));
-        assert_eq!(rt; slot.failures(), 0);
+        assert!(rt; slot.failures() == 0);
     }
 }
 
@@ -172,13 +172,12 @@ fn fails_where_its_file_does(rt: HostRuntime) {
         let file = Reluctant::new(rt.alloc(), 1024, failing, ErrorKind::StorageFull);
         let mut slot = FileSlot::new(0, file);
         let saved = slot.save(&page);
-        assert_eq!(rt; saved.is_err(), failing < 7, "call {failing}");
-        assert_eq!(rt;
-            loaded(&mut slot).is_err(),
-            failing >= 7 || failing < 6,
+        assert!(rt; saved.is_err() == (failing < 7), "call {failing}");
+        assert!(rt;
+            loaded(&mut slot).is_err() == (failing >= 7 || failing < 6),
             "call {failing}"
         );
-        assert_eq!(rt; slot.save(&page), Ok(()));
+        assert!(rt; slot.save(&page) == Ok(()));
         assert!(rt; loaded(&mut slot) == Ok(page));
     }
 }
@@ -189,11 +188,11 @@ fn fails_at_an_end_in_the_middle_of_a_page(rt: HostRuntime) -> Result<(), Fail> 
     for length in [0, 1, 4095] {
         let bytes = Vec::from_slice(rt.alloc(), &page[..length])?;
         let mut slot = FileSlot::new(0, Cursor::new(bytes));
-        assert_eq!(rt; loaded(&mut slot), Err(SlotFault));
-        assert_eq!(rt; slot.failures(), 1);
-        assert_eq!(rt; slot.save(&page), Ok(()));
+        assert!(rt; loaded(&mut slot) == Err(SlotFault));
+        assert!(rt; slot.failures() == 1);
+        assert!(rt; slot.save(&page) == Ok(()));
         assert!(rt; loaded(&mut slot) == Ok(page));
-        assert_eq!(rt; slot.failures(), 1);
+        assert!(rt; slot.failures() == 1);
     }
     Ok(())
 }

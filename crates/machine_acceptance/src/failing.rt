@@ -73,7 +73,7 @@ fn runs_on<L: Ledger, S: SwapSlot>(rt: &impl Abort, core: &mut Core<L, S, ClockR
         (STEP, Reply::Ended),
     ];
     expect(rt, core, &events);
-    assert_eq!(rt; stored(core), Some(5));
+    assert!(rt; stored(core) == Some(5));
 }
 
 fn stays_where_its_save_fails<L: Ledger>(
@@ -87,10 +87,10 @@ fn stays_where_its_save_fails<L: Ledger>(
 {
     let slot = FuseSlot::new(alloc, 0)?;
     let mut core: Core<L, FuseSlot, ClockRing> = swept(rt, alloc, slot, blank)?;
-    assert_eq!(rt; core.apply(Event::Saved(DATA)), Reply::Device);
-    assert_eq!(rt; core.state(0, DATA.vpn), Some(PageState::Resident));
-    assert_eq!(rt; kind_of_data(&core), Some(EntryKind::Test));
-    assert_eq!(rt; stored(&mut core), Some(5));
+    assert!(rt; core.apply(Event::Saved(DATA)) == Reply::Device);
+    assert!(rt; core.state(0, DATA.vpn) == Some(PageState::Resident));
+    assert!(rt; kind_of_data(&core) == Some(EntryKind::Test));
+    assert!(rt; stored(&mut core) == Some(5));
     let answered = core.apply(Event::Sweep) != Reply::Refused(EventRefusal::NothingResident);
     assert!(rt; answered);
     Ok(())
@@ -111,7 +111,7 @@ fn is_saved_again<L: Ledger>(rt: &impl Abort, alloc: Global, blank: Blank) -> Re
         (Event::Saved(DATA), Reply::Freed),
     ];
     expect(rt, &mut core, &events);
-    assert_eq!(rt; core.state(0, DATA.vpn), Some(PageState::Away));
+    assert!(rt; core.state(0, DATA.vpn) == Some(PageState::Away));
     runs_on(rt, &mut core);
     Ok(())
 }
@@ -129,10 +129,10 @@ fn is_loaded_again<L: Ledger, S: SwapSlot>(
     requires one_each { L.parts ≡ 5 }
 {
     let mut core: Core<L, S, ClockRing> = swept(rt, alloc, slot, blank)?;
-    assert_eq!(rt; core.apply(Event::Saved(DATA)), Reply::Freed);
-    assert_eq!(rt; core.apply(Event::PageIn(DATA)), reply);
-    assert_eq!(rt; core.state(0, DATA.vpn), Some(PageState::Away));
-    assert_eq!(rt; kind_of_data(&core), None);
+    assert!(rt; core.apply(Event::Saved(DATA)) == Reply::Freed);
+    assert!(rt; core.apply(Event::PageIn(DATA)) == reply);
+    assert!(rt; core.state(0, DATA.vpn) == Some(PageState::Away));
+    assert!(rt; kind_of_data(&core) == None);
     runs_on(rt, &mut core);
     Ok(())
 }

@@ -22,7 +22,7 @@ use Rattle.paged_memory.specs.Seen.{entry_seen, frame_seen}
 use Rattle.paged_memory.specs.Paged.{PagedValue, seen_of, page_at, seen_at, flat_page, flat_pages, memory_in, Holds, ChangesPage}
 use Rattle.page_store.specs.Lending.{with_bytes}
 use Rattle.paged_memory.specs.access.HartMemory.{KeepsPages}
-use Rattle.paged_memory.specs.access.HartMemoryLaws.{pages_itself, pages_on}
+use Rattle.paged_memory.proofs.access_laws.HartMemoryLaws.{pages_itself, pages_on}
 use Rattle.paged_memory.proofs.SoundnessLaws.{unheld_elsewhere}
 use Rattle.paged_memory.proofs.move_laws.PagedLaws.{Change, get-page_at, page_at-nowhere, swap_key, changes_no_entry, Holds-unheld}
 

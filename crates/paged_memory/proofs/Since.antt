@@ -14,7 +14,7 @@ use Rattle.paged_memory.specs.access.Access.{KeepsBare, MarksUse, Serves, cache_
 use Rattle.paged_memory.specs.access.HartMemory.{InTurn, MarksSince, UsedSince}
 use Rattle.paged_memory.specs.access.OwnCache.{FilledFrom}
 use Rattle.paged_memory.proofs.access_laws.ShownLaws.{serves_shown}
-use Rattle.paged_memory.specs.access.HartMemoryLaws.{seen_bare, served_before}
+use Rattle.paged_memory.proofs.access_laws.HartMemoryLaws.{seen_bare, served_before}
 use Rattle.paged_memory.specs.Paged.{PagedValue, page_at, seen_at, seen_of}
 use Rattle.paged_memory.specs.Seen.{is_used}
 

@@ -14,7 +14,7 @@ use Rattle.tlb_core.specs.declared.translation.Translation.{Translation}
 use Rattle.paged_memory.specs.access.Access.{HasPage, KeepsTranslations, LacksPage, MarksUse, TakesStores, cache_of}
 use Rattle.paged_memory.specs.access.Accesses.{Reads, Writes}
 use Rattle.paged_memory.specs.access.HartMemory.{InTurn}
-use Rattle.paged_memory.specs.access.HartMemoryLaws.{still_in_turn}
+use Rattle.paged_memory.proofs.access_laws.HartMemoryLaws.{still_in_turn}
 use Rattle.paged_memory.specs.access.OnePage.{AnswersUse, UsesPage, WritesPage}
 use Rattle.paged_memory.specs.Paged.{PagedValue, memory_of}
 use Rattle.paged_memory.proofs.access_laws.OnePageLaws.{uses_answered, uses_refused}

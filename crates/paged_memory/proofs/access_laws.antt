@@ -5,6 +5,9 @@ pub mod AlikeLaws
 pub mod LooksLaws
 pub mod CallLaws
 pub mod HartLaws
+pub mod HartMemoryLaws
+pub mod OwnCacheLaws
+pub mod MissingLaws
 pub mod WalkLaws
 pub mod LocateLaws
 pub mod ReadLaws
@@ -16,3 +19,4 @@ pub mod BusLaws
 pub mod ReadyLaws
 pub mod StoredLaws
 pub mod ShownLaws
+pub mod ToldLaws

@@ -1,3 +1,4 @@
+pub mod CopiesLaws
 pub mod CopiesToldLaws
 pub mod CopiesMoveLaws
 pub mod CleanLaws

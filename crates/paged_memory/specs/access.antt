@@ -2,14 +2,11 @@ pub mod Access
 pub mod OnePage
 pub mod Accesses
 pub mod Ready
-pub mod ReadyLaws
 pub mod Replies
 pub mod OwnCache
-pub mod OwnCacheLaws
 pub mod HartMemory
-pub mod HartMemoryLaws
 pub mod Translating
 pub mod Using
 pub mod Missing
-pub mod MissingLaws
 pub mod Notices
+pub mod Told

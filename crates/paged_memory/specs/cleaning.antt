@@ -1,3 +1,2 @@
 pub mod Cleaning
 pub mod Copies
-pub mod CopiesLaws

@@ -10,7 +10,8 @@ ghost use Rattle.rv_exec.specs.Answers.{with_answer};
 ghost use Rattle.paged_memory.specs.access.Accesses.{AnswersAccess, Reads, Reserves, Writes};
 ghost use Rattle.paged_memory.specs.Paged.{memory_of};
 ghost use Rattle.paged_memory.specs.access.Access.{cache_of};
-ghost use Rattle.paged_memory.specs.access.HartMemory.{InTurn, KeepsAccess};
+ghost use Rattle.paged_memory.specs.access.HartMemory.{InTurn};
+ghost use Rattle.paged_memory.specs.access.Told.{KeepsTold};
 
 use crate::memory::PagedMemory;
 use crate::reading::{ReadyBytes, fetch_anew, load_anew, load_to_replace, read, read_ready};
@@ -49,7 +50,7 @@ pub struct HartMemory<'a, L: Ledger, S: SwapSlot, O: Opening> {
 
 impl<'a, L: Ledger, S: SwapSlot, O: Opening> HartMemory<'a, L, S, O> {
     /// The memory as a hart that was started reaches it, until the borrow ends.
-    #[tactic(auto, using(crate::specs::access::HartMemoryLaws::turn_opens))]
+    #[tactic(auto, using(crate::proofs::access_laws::HartMemoryLaws::turn_opens))]
     pub fn new(memory: &'a mut PagedMemory<L, S>, hart: usize) -> Self
         requires started { hart < length memory.old.caches }
         requires opening { cache_of memory.old.caches hart ≡ O.opening }
@@ -70,10 +71,7 @@ impl<'a, L: Ledger, S: SwapSlot, O: Opening> Bus for HartMemory<'a, L, S, O> {
     ghost use Rattle.std.proofs.Common.{refl, sym, ◌∙◌, subst};
     ghost use Rattle.paged_memory.specs.access.Access.{HasPage, LacksPage};
     ghost use Rattle.paged_memory.specs.access.HartMemory.{MarksWithin, UsedSince};
-    ghost use Rattle.paged_memory.specs.access.HartMemoryLaws.{access_itself, access_on, lacked, had};
-    ghost use Rattle.paged_memory.specs.access.HartMemoryLaws.{used_since};
     ghost use Rattle.paged_memory.specs.access.Missing.{MissesIn, TakesSince};
-    ghost use Rattle.paged_memory.specs.access.MissingLaws.{since_kept};
 
     ghost memory = { λ m. memory_of S.content m.memory.now };
 
@@ -91,31 +89,36 @@ impl<'a, L: Ledger, S: SwapSlot, O: Opening> Bus for HartMemory<'a, L, S, O> {
 
     ghost keeps = { λ old new. (new.hart ≡ old.hart) ×
         (new.memory.ghost_name ≡ old.memory.ghost_name) ×
-        KeepsAccess old.hart old.memory.now new.memory.now };
+        KeepsTold old.hart O.opening old.memory.now new.memory.now };
 
-    ghost keeps_itself = { λ bus. (refl, refl, access_itself bus.hart bus.memory.now) };
+    ghost keeps_itself = { λ bus. (refl, refl, record {
+      since = λ start kept. kept;
+      lacked = λ page lacks. lacks;
+      had = λ page has. has;
+      used = λ page used. used;
+      takes = λ page taken. taken;
+    }) };
 
-    ghost keeps_on = { λ before between after first second. (
-      second.0 ∙ first.0,
-      second.1 ∙ first.1,
-      access_on before.hart before.memory.now
-          between.memory.now after.memory.now first.2 (subst
-          (λ h. KeepsAccess h between.memory.now after.memory.now) first.0 second.2),
-    ) };
+    ghost keeps_on = { λ before between after first second.
+        let later = subst (λ h. KeepsTold h O.opening between.memory.now after.memory.now)
+        first.0 second.2 in (second.0 ∙ first.0, second.1 ∙ first.1, record {
+      since = λ start kept. later.since start (first.2.since start kept);
+      lacked = λ page lacks. first.2.lacked page (later.lacked page lacks);
+      had = λ page has. first.2.had page (later.had page has);
+      used = λ page used. later.used page (first.2.used page used);
+      takes = λ page taken. later.takes page (first.2.takes page taken);
+    }) };
 
-    ghost lacked_before = { λ before after page kept. lacked before.memory.now.pages
-        after.memory.now.pages page kept.2.pages };
+    ghost lacked_before = { λ before after page kept. kept.2.lacked page };
 
-    ghost had_before = { λ before after page kept has. had before.hart page before.memory.now
-        after.memory.now kept.2 (subst (λ h. HasPage after.memory.now.pages
-        (cache_of after.memory.now.caches h) page) kept.0 has) };
+    ghost had_before = { λ before after page kept has. kept.2.had page
+        (subst (λ h. HasPage after.memory.now.pages (cache_of after.memory.now.caches h) page)
+        kept.0 has) };
 
     ghost marked_on = { λ before after page kept was. subst
-        (λ h. UsedSince h after.memory.now O.opening page) (sym kept.0)
-        (used_since before.hart page O.opening before.memory.now after.memory.now kept.2 was) };
+        (λ h. UsedSince h after.memory.now O.opening page) (sym kept.0) (kept.2.used page was) };
 
-    ghost takes_on = { λ before after page kept taken. since_kept before.hart page O.opening
-        before.memory.now after.memory.now kept.2 taken };
+    ghost takes_on = { λ before after page kept. kept.2.takes page };
 
     #[inline]
     #[tactic(auto, unfolding(page_memory::specs::Pages::fetched, page_memory::specs::Pages::aligned_page))]

@@ -18,7 +18,8 @@ use std::sync::ledger::Ledger;
 use swap_slots::SwapSlot;
 
 impl<L: Ledger, S: SwapSlot> ReadyMemory for PagedMemory<L, S> {
-    ghost use Rattle.paged_memory.specs.access.ReadyLaws.{ready_itself, admits_still, serves_still};
+    ghost use Rattle.std.proofs.Common.{refl, sym, subst};
+    ghost use Rattle.paged_memory.specs.Paged.{PagedValue};
 
     ghost memory = { λ m. memory_of S.content m };
 
@@ -28,12 +29,18 @@ impl<L: Ledger, S: SwapSlot> ReadyMemory for PagedMemory<L, S> {
 
     ghost stays = { λ hart. KeepsReady S.content S.honest hart };
 
-    ghost stays_itself = { λ hart m. ready_itself hart m };
+    ghost stays_itself = { λ hart m. record {
+      only = refl;
+      seen = λ page. refl;
+      since = λ start kept. kept;
+      serves = λ access page serves. serves;
+      coheres = λ is. is;
+    } };
 
-    ghost admits_on = { λ hart before after kept. admits_still hart before after kept };
+    ghost admits_on = { λ hart before after kept started. subst
+        (λ (m : PagedValue S). hart < harts_in m) (sym kept.only) started };
 
-    ghost serves_on = { λ hart before after access page kept.
-        serves_still hart before after kept access page };
+    ghost serves_on = { λ hart before after access page kept. kept.serves access page };
 
     #[inline(always)]
     fn ready_fetch(&self, hart: u32, address: u32) -> bool {

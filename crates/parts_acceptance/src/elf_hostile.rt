@@ -104,7 +104,7 @@ fn told_of_program_header(place: usize, value: u8) -> Told {
 fn each_prefix_has_its_fault(rt: HostRuntime) -> Result<(), Fail> {
     let alloc = rt.alloc();
     let file = file_of_nine_words(alloc)?;
-    assert_eq!(rt; file.len(), 8192);
+    assert!(rt; file.len() == 8192);
     for length in 0..8192usize {
         let fault = match length {
             0..=51 => 1,
@@ -114,9 +114,8 @@ fn each_prefix_has_its_fault(rt: HostRuntime) -> Result<(), Fail> {
         let Some(prefix) = file.get(..length) else {
             return Err(Fail::from("a prefix"));
         };
-        assert_eq!(rt;
-            read_as(alloc, prefix),
-            Told::Fault(fault),
+        assert!(rt;
+            read_as(alloc, prefix) == Told::Fault(fault),
             "{length} bytes"
         );
     }
@@ -140,7 +139,7 @@ fn each_byte_of_the_headers_is_looked_at(rt: HostRuntime) -> Result<(), Fail> {
                 told_of_program_header(place - 52, value)
             };
             set(&mut file, place, value);
-            assert_eq!(rt; read_as(alloc, &file), rule, "byte {place} is {value}");
+            assert!(rt; read_as(alloc, &file) == rule, "byte {place} is {value}");
         }
         set(&mut file, place, own);
     }

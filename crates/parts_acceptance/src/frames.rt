@@ -22,7 +22,7 @@ fn take_all<L: Ledger>(rt: &impl Abort, alloc: Global, blank: Blank)
     assert!(rt; pool.take().is_none());
     let last = taken.pop().expect(rt, "a frame");
     assert!(rt; pool.give(last).is_ok());
-    assert_eq!(rt; (pool.len(), pool.size()), (1, 4));
+    assert!(rt; (pool.len(), pool.size()) == (1, 4));
     let mut all = pool.give_up();
     gather(taken, &mut all);
 }
@@ -33,7 +33,7 @@ fn take_one<L: Ledger>(rt: &impl Abort, pool: &mut FramePool<L>, taken: &mut Vec
     assert!(rt; frame.bytes() == &[0; 4096]);
     frame.copy_from(&[7; 4096]);
     frame.bytes_mut()[1] = 8;
-    assert_eq!(rt; (frame.bytes()[0], frame.bytes()[1]), (7, 8));
+    assert!(rt; (frame.bytes()[0], frame.bytes()[1]) == (7, 8));
     assert!(rt; taken.push(frame).is_ok());
 }
 
@@ -43,7 +43,7 @@ fn all_differ<L: Ledger>(rt: &impl Abort, alloc: Global, taken: &[Frame<L>]) {
         numbers.push(frame.number()).expect(rt, "memory");
     }
     numbers.sort().expect(rt, "memory");
-    assert_eq!(rt; numbers.as_slice(), [0, 1, 2, 3].as_slice());
+    assert!(rt; numbers.as_slice() == [0, 1, 2, 3].as_slice());
 }
 
 /// A copy goes along with the frame's room, and comes back with it.
@@ -57,11 +57,11 @@ fn copy_one<L: Ledger>(rt: &impl Abort, alloc: Global, blank: Blank)
     let number = frame.number();
     frame.bytes_mut()[3] = 7;
     let (bare, copy) = frame.copied();
-    assert_eq!(rt; (bare.number(), bare.bytes()[3], copy[3]), (number, 7, 7));
+    assert!(rt; (bare.number(), bare.bytes()[3], copy[3]) == (number, 7, 7));
     let frame = Frame::with_room(bare, copy);
-    assert_eq!(rt; (frame.bare().number(), frame.bytes()[3]), (number, 7));
+    assert!(rt; (frame.bare().number(), frame.bytes()[3]) == (number, 7));
     pool.put_back(frame);
-    assert_eq!(rt; pool.len(), 4);
+    assert!(rt; pool.len() == 4);
 }
 
 fn refused<L: Ledger>(alloc: Global, size: u32, blank: Blank) -> Option<PoolError>
@@ -86,8 +86,5 @@ fn copies_into_its_own_room(rt: HostRuntime) {
 fn refuses_bad_sizes(rt: HostRuntime) {
     let few = refused::<Brand>(rt.alloc(), 3, Blank::new(4));
     let many = refused::<Brand>(rt.alloc(), 4097, Blank::new(4098));
-    assert_eq!(rt;
-        (few, many),
-        (Some(PoolError::BadSize), Some(PoolError::BadSize))
-    );
+    assert!(rt; (few, many) == (Some(PoolError::BadSize), Some(PoolError::BadSize)));
 }

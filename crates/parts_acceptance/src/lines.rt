@@ -10,7 +10,7 @@ fn a_text_has_its_lines(rt: HostRuntime) {
             assert!(rt; false);
             return;
         };
-        assert_eq!(rt; line, expected);
+        assert!(rt; line == expected);
         rest = more;
     }
     assert!(rt; next_line(rest).is_none());
@@ -24,7 +24,7 @@ fn a_line_has_its_words(rt: HostRuntime) {
             assert!(rt; false);
             return;
         };
-        assert_eq!(rt; word, expected);
+        assert!(rt; word == expected);
         rest = more;
     }
     assert!(rt; next_word(rest).is_none());

@@ -16,10 +16,7 @@ fn holders_of_a_page_have_rights_of_their_own(rt: HostRuntime) {
     drop(first);
     let own = second.to_page(rt.alloc()).expect(&rt, "no fault");
     assert!(rt; own.rights() == Rights::READ_WRITE);
-    assert_eq!(rt;
-        (second.bytes()[3], own.bytes()[3], own.bytes()[4]),
-        (7, 7, 0)
-    );
+    assert!(rt; (second.bytes()[3], own.bytes()[3], own.bytes()[4]) == (7, 7, 0));
 }
 
 /// Three bytes that may be shared.
@@ -41,7 +38,7 @@ fn an_image_is_shared_with_its_pages(rt: HostRuntime) {
     let image = Image::from_words(rt.alloc(), &[0x13, 0x73]).expect(&rt, "no fault");
     let other = image.share(rt.alloc()).expect(&rt, "no fault");
     drop(image);
-    assert_eq!(rt; (other.entry(), other.pages().len()), (0x1_0000, 1));
-    assert_eq!(rt; other.pages()[0].number, 0x10);
-    assert_eq!(rt; other.pages()[0].page.bytes()[4], 0x73);
+    assert!(rt; (other.entry(), other.pages().len()) == (0x1_0000, 1));
+    assert!(rt; other.pages()[0].number == 0x10);
+    assert!(rt; other.pages()[0].page.bytes()[4] == 0x73);
 }

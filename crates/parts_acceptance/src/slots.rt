@@ -14,16 +14,10 @@ fn through<S: SwapSlot>(slot: &mut S, byte: u8) -> Result<u8, SlotFault> {
 fn slots_give_what_was_saved(rt: HostRuntime) {
     let mut memory = MemorySlot::new(rt.alloc()).expect(&rt, "no fault");
     let mut fuse = FuseSlot::new(rt.alloc(), 3).expect(&rt, "no fault");
-    assert_eq!(rt; (through(&mut memory, 7), memory.failures()), (Ok(7), 0));
-    assert_eq!(rt; (through(&mut fuse, 7), fuse.failures()), (Ok(7), 0));
-    assert_eq!(rt;
-        (through(&mut fuse, 8), fuse.failures()),
-        (Err(SlotFault), 1)
-    );
-    assert_eq!(rt;
-        (through(&mut fuse, 9), fuse.failures()),
-        (Err(SlotFault), 2)
-    );
+    assert!(rt; (through(&mut memory, 7), memory.failures()) == (Ok(7), 0));
+    assert!(rt; (through(&mut fuse, 7), fuse.failures()) == (Ok(7), 0));
+    assert!(rt; (through(&mut fuse, 8), fuse.failures()) == (Err(SlotFault), 1));
+    assert!(rt; (through(&mut fuse, 9), fuse.failures()) == (Err(SlotFault), 2));
 }
 
 #[test]
@@ -40,7 +34,7 @@ fn pool_gives_each_slot_once(rt: HostRuntime) {
     assert!(rt; pool.take().is_some());
     assert!(rt; pool.take().is_none() && pool.is_empty());
     assert!(rt; pool.give(slot).is_ok());
-    assert_eq!(rt; (pool.len(), pool.size()), (1, 2));
+    assert!(rt; (pool.len(), pool.size()) == (1, 2));
     assert!(rt;
         pool.give(MemorySlot::new(rt.alloc()).expect(&rt, "no fault"))
             .is_ok()

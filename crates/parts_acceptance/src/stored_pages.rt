@@ -70,9 +70,9 @@ fn collected<L: Ledger, S: SwapSlot>(
 fn waits<L: Ledger, S: SwapSlot>(rt: &impl Abort, page: &mut Page<L, S>) {
     let mut spare = None;
     let (told, _) = collected(page, true, &mut spare);
-    assert_eq!(rt; told, Told::NotYet);
+    assert!(rt; told == Told::NotYet);
     let (told, _) = collected(page, false, &mut spare);
-    assert_eq!(rt; told, Told::NoSlot);
+    assert!(rt; told == Told::NoSlot);
 }
 
 /// It is saved, and its frame goes.
@@ -80,25 +80,22 @@ fn goes<L: Ledger, S: SwapSlot>(rt: &impl Abort, page: &mut Page<L, S>, slot: S)
     let mut spare = Some(slot);
     let (_, job) = collected(page, false, &mut spare);
     let job = job.expect(rt, "a job");
-    assert_eq!(rt;
-        (job.process(), job.vpn(), page.state()),
-        (0, 16, PageState::Saving)
-    );
+    assert!(rt; (job.process(), job.vpn(), page.state()) == (0, 16, PageState::Saving));
     assert!(rt; spare.is_none());
     let frame = page.saved(job.run()).ok().expect(rt, "saved");
-    assert_eq!(rt; shown(page), (PageState::Away, Ok(STORED)));
+    assert!(rt; shown(page) == (PageState::Away, Ok(STORED)));
     frame
 }
 
 /// It comes back, goes unchanged, and is given up.
 fn comes<L: Ledger, S: SwapSlot>(rt: &impl Abort, page: &mut Page<L, S>, frame: Frame<L>) {
     assert!(rt; page.fill(frame).is_ok());
-    assert_eq!(rt; shown(page), (PageState::Resident, Ok(STORED)));
+    assert!(rt; shown(page) == (PageState::Resident, Ok(STORED)));
     assert!(rt; page.leave(false).is_ok());
     let (told, _) = collected(page, false, &mut None);
-    assert_eq!(rt; told, Told::Clean);
+    assert!(rt; told == Told::Clean);
     assert!(rt; matches!(page.give_back(), Some((None, Some(_)))));
-    assert_eq!(rt; shown(page), (PageState::Purged, Err(ReadFault::Purged)));
+    assert!(rt; shown(page) == (PageState::Purged, Err(ReadFault::Purged)));
 }
 
 fn goes_and_comes<L: Ledger>(rt: &impl Abort, alloc: Global, blank: Blank)
@@ -128,11 +125,8 @@ fn stays<L: Ledger, S: SwapSlot>(rt: &impl Abort, page: &mut Page<L, S>, slot: S
     let job = job.expect(rt, "a job");
     let saved = page.saved(job.run());
     assert!(rt; matches!(saved, Err(SaveRefusal::Device)));
-    assert_eq!(rt;
-        (page.state(), page.bring_back()),
-        (PageState::Leaving, Ok(true))
-    );
-    assert_eq!(rt; shown(page), (PageState::Resident, Ok(STORED)));
+    assert!(rt; (page.state(), page.bring_back()) == (PageState::Leaving, Ok(true)));
+    assert!(rt; shown(page) == (PageState::Resident, Ok(STORED)));
 }
 
 fn fails_to_save<L: Ledger>(rt: &impl Abort, alloc: Global, blank: Blank)

@@ -7,8 +7,8 @@ use sv32_table::{NoTable, PageTables, Pte, Tables, WalkFault};
 #[test]
 fn flags_are_the_manuals(rt: HostRuntime) {
     let flags = Pte::VALID | Pte::READ | Pte::WRITE | Pte::USER | Pte::ACCESSED | Pte::DIRTY;
-    assert_eq!(rt; 5 * 1024 + u64::from(flags.0), 0x14D7);
-    assert_eq!(rt; Pte(0x14D7).ppn(), 5);
+    assert!(rt; 5 * 1024 + u64::from(flags.0) == 0x14D7);
+    assert!(rt; Pte(0x14D7).ppn() == 5);
     assert!(rt; Pte(0x14D7).is_dirty() && !Pte(0x1457).is_dirty());
 }
 
@@ -18,36 +18,36 @@ fn fault_of(tables: &mut Tables, access: Access) -> Option<WalkFault> {
 }
 
 fn nothing_is_mapped(rt: &impl Abort, tables: &mut Tables) {
-    assert_eq!(rt; tables.set(1, 0, 0), Err(NoTable));
-    assert_eq!(rt; fault_of(tables, Access::Load), Some(WalkFault::PageFault));
+    assert!(rt; tables.set(1, 0, 0) == Err(NoTable));
+    assert!(rt; fault_of(tables, Access::Load) == Some(WalkFault::PageFault));
 }
 
 fn is_mapped(rt: &impl Abort, tables: &mut Tables) {
     let mapped = tables.map(0x12, 5, Rights::READ | Rights::WRITE, true);
     assert!(rt; mapped.is_ok());
     // The word that the root has: a pointer to table 1.
-    assert_eq!(rt; tables.set(0, 0, 0x8000_0401), Ok(()));
-    assert_eq!(rt; tables.lookup(0x12), Some(Pte(0x1457)));
+    assert!(rt; tables.set(0, 0, 0x8000_0401) == Ok(()));
+    assert!(rt; tables.lookup(0x12) == Some(Pte(0x1457)));
 }
 
 fn is_walked(rt: &impl Abort, tables: &mut Tables) {
     let leaf = tables.walk(0x1_2000, Access::Store).expect(rt, "mapped");
-    assert_eq!(rt; (leaf.pte, leaf.physical), (Pte(0x14D7), 0x5000));
-    assert_eq!(rt; tables.lookup(0x12), Some(Pte(0x14D7)));
-    assert_eq!(rt; fault_of(tables, Access::Fetch), Some(WalkFault::PageFault));
+    assert!(rt; (leaf.pte, leaf.physical) == (Pte(0x14D7), 0x5000));
+    assert!(rt; tables.lookup(0x12) == Some(Pte(0x14D7)));
+    assert!(rt; fault_of(tables, Access::Fetch) == Some(WalkFault::PageFault));
 }
 
 fn is_cleared(rt: &impl Abort, tables: &mut Tables) {
-    assert_eq!(rt; tables.test_and_clear_accessed(0x12), Some(true));
-    assert_eq!(rt; tables.test_and_clear_accessed(0x12), Some(false));
-    assert_eq!(rt; tables.lookup(0x12), Some(Pte(0x1497)));
+    assert!(rt; tables.test_and_clear_accessed(0x12) == Some(true));
+    assert!(rt; tables.test_and_clear_accessed(0x12) == Some(false));
+    assert!(rt; tables.lookup(0x12) == Some(Pte(0x1497)));
 }
 
 fn is_unmapped(rt: &impl Abort, tables: &mut Tables) {
-    assert_eq!(rt; fault_of(tables, Access::Load), None);
-    assert_eq!(rt; tables.unmap(0x12), Some(Pte(0x14D7)));
-    assert_eq!(rt; (tables.unmap(0x12), tables.lookup(0x12)), (None, None));
-    assert_eq!(rt; fault_of(tables, Access::Load), Some(WalkFault::PageFault));
+    assert!(rt; fault_of(tables, Access::Load) == None);
+    assert!(rt; tables.unmap(0x12) == Some(Pte(0x14D7)));
+    assert!(rt; (tables.unmap(0x12), tables.lookup(0x12)) == (None, None));
+    assert!(rt; fault_of(tables, Access::Load) == Some(WalkFault::PageFault));
 }
 
 #[test]
@@ -72,21 +72,21 @@ fn an_address_is_split(rt: HostRuntime) {
     // The words that the root has: pointers to tables 1 and 2.
     tables.set(0, 0x1FF, 0x8000_0401).expect(&rt, "no fault");
     tables.set(0, 0, 0x8000_0801).expect(&rt, "no fault");
-    assert_eq!(rt; tables.lookup(0x7FFFF), Some(Pte(0x1C13)));
-    assert_eq!(rt; tables.lookup(0x12), Some(Pte(0x141B)));
-    assert_eq!(rt;
+    assert!(rt; tables.lookup(0x7FFFF) == Some(Pte(0x1C13)));
+    assert!(rt; tables.lookup(0x12) == Some(Pte(0x141B)));
+    assert!(rt;
         tables
             .walk(0x7FFF_FFF0, Access::Load)
             .expect(&rt, "no fault")
-            .physical,
-        0x7FF0
+            .physical
+            == 0x7FF0
     );
-    assert_eq!(rt;
+    assert!(rt;
         tables
             .walk(0x1_2ABC, Access::Fetch)
             .expect(&rt, "no fault")
-            .physical,
-        0x5ABC
+            .physical
+            == 0x5ABC
     );
 }
 
@@ -105,7 +105,7 @@ fn root_words_are_read(rt: HostRuntime) {
         let walked = tables
             .walk(0x1_2ABC, Access::Load)
             .map(|leaf| leaf.physical);
-        assert_eq!(rt; walked, answer, "{word:#x}");
+        assert!(rt; walked == answer, "{word:#x}");
     }
 }
 
@@ -118,24 +118,18 @@ fn pages_have_entries_of_their_own(rt: HostRuntime) {
     tables
         .map(0x13, 6, Rights::READ, true)
         .expect(&rt, "no fault");
-    assert_eq!(rt;
+    assert!(rt;
         tables
             .walk(0x1_2ABC, Access::Store)
             .expect(&rt, "no fault")
-            .physical,
-        0x5ABC
+            .physical
+            == 0x5ABC
     );
-    assert_eq!(rt;
-        tables.walk(0x1_3000, Access::Store),
-        Err(WalkFault::PageFault)
-    );
-    assert_eq!(rt; tables.test_and_clear_accessed(0x13), Some(true));
-    assert_eq!(rt; tables.lookup(0x12), Some(Pte(0x14D7)));
-    assert_eq!(rt; tables.unmap(0x12), Some(Pte(0x14D7)));
-    assert_eq!(rt;
-        (tables.lookup(0x12), tables.lookup(0x13)),
-        (None, Some(Pte(0x1813)))
-    );
+    assert!(rt; tables.walk(0x1_3000, Access::Store) == Err(WalkFault::PageFault));
+    assert!(rt; tables.test_and_clear_accessed(0x13) == Some(true));
+    assert!(rt; tables.lookup(0x12) == Some(Pte(0x14D7)));
+    assert!(rt; tables.unmap(0x12) == Some(Pte(0x14D7)));
+    assert!(rt; (tables.lookup(0x12), tables.lookup(0x13)) == (None, Some(Pte(0x1813))));
 }
 
 #[test]
@@ -146,6 +140,6 @@ fn a_page_is_mapped_again(rt: HostRuntime) {
         .expect(&rt, "no fault");
     tables.unmap(0x12);
     tables.remap(0x12, 6, Rights::READ | Rights::WRITE, false, true);
-    assert_eq!(rt; tables.lookup(0x12), Some(Pte(0x1897)));
+    assert!(rt; tables.lookup(0x12) == Some(Pte(0x1897)));
     assert!(rt; tables.is_dirty(0x12));
 }

@@ -31,18 +31,18 @@ fn the_oldest_goes_first(rt: HostRuntime) {
     }
     assert!(rt; !cache.holds(0) && cache.holds(1));
     cache.fill(entry(1, 99));
-    assert_eq!(rt; cache.look(1).map(|found| found.frame), Some(99));
+    assert!(rt; cache.look(1).map(|found| found.frame) == Some(99));
     // Pages 2 and 258 share a hint.
     cache.fill(entry(258, 7));
     assert!(rt; !cache.holds(1));
-    assert_eq!(rt; cache.look(2).map(|found| found.frame), Some(2));
-    assert_eq!(rt; cache.look(258).map(|found| found.frame), Some(7));
+    assert!(rt; cache.look(2).map(|found| found.frame) == Some(2));
+    assert!(rt; cache.look(258).map(|found| found.frame) == Some(7));
     cache.doom(258);
     cache.doom(3);
     assert!(rt; cache.holds(258));
     cache.drop_doomed();
     assert!(rt; !cache.holds(258) && !cache.holds(3) && cache.holds(4));
-    assert_eq!(rt; cache.entries().len(), 14);
+    assert!(rt; cache.entries().len() == 14);
     cache.clear();
     assert!(rt; !cache.holds(4));
 }
@@ -99,7 +99,7 @@ fn a_page_is_ready_until_its_entry_goes(rt: HostRuntime) {
         let mut cache = ready_at(0x2ffc);
         apply(&mut cache, change);
         let ready = cache.ready(Access::Load, Width::Half, 0x2002).is_some();
-        assert_eq!(rt; ready, stays);
+        assert!(rt; ready == stays);
     }
 }
 
@@ -115,6 +115,6 @@ fn a_page_is_ready_for_an_aligned_access_of_its_kind(rt: HostRuntime) {
         (Access::Store, Width::Word, 0x2000, false),
         (Access::Fetch, Width::Word, 0x2000, false),
     ] {
-        assert_eq!(rt; cache.ready(access, width, address).is_some(), ready);
+        assert!(rt; cache.ready(access, width, address).is_some() == ready);
     }
 }

@@ -80,7 +80,7 @@ fn changed(alloc: Global, place: usize, line: &[u8]) -> Vec<u8> {
 fn each_change_is_refused(rt: HostRuntime) {
     for (place, line, fault) in CHANGES {
         let text = changed(rt.alloc(), place, line);
-        assert_eq!(rt; read_record(rt.alloc(), text.as_slice()).err(), Some(fault));
+        assert!(rt; read_record(rt.alloc(), text.as_slice()).err() == Some(fault));
     }
 }
 
@@ -88,14 +88,14 @@ fn each_change_is_refused(rt: HostRuntime) {
 fn what_is_read_is_written(rt: HostRuntime) {
     let text = changed(rt.alloc(), 0, LINES[0]);
     let Ok(told) = read_record(rt.alloc(), text.as_slice()) else {
-        assert_eq!(rt; "a record", "none");
+        assert!(rt; "a record" == "none");
         return;
     };
-    assert_eq!(rt; told.turns.len(), 3);
-    assert_eq!(rt; told.closing.steps, 4_294_968_302);
+    assert!(rt; told.turns.len() == 3);
+    assert!(rt; told.closing.steps == 4_294_968_302);
     let mut out = Vec::new(rt.alloc());
-    assert_eq!(rt; write_record(&told, &mut out).is_ok(), true);
-    assert_eq!(rt; out.as_slice(), text.as_slice());
+    assert!(rt; write_record(&told, &mut out).is_ok() == true);
+    assert!(rt; out.as_slice() == text.as_slice());
 }
 
 /// Writes `hi` and a line feed, and exits with 0: nine instructions, and then the text.
@@ -107,94 +107,73 @@ const WORDS: [u32; 10] = [
 fn explored_replays(rt: HostRuntime) {
     let alloc = rt.alloc();
     let made = Image::from_words(alloc, WORDS.as_slice());
-    assert_eq!(rt; made.is_ok(), true);
+    assert!(rt; made.is_ok() == true);
     let Ok(image) = made else {
         return;
     };
     let file = take_fingerprint(b"file");
     let ran = explore_run(alloc, &image, file, Vec::new(alloc), 7, Way::Turns, 1000);
-    assert_eq!(rt; ran.is_ok(), true);
+    assert!(rt; ran.is_ok() == true);
     let Ok(mut told) = ran else {
         return;
     };
-    assert_eq!(rt; told.closing.steps, 9);
-    assert_eq!(rt; told.closing.end, End::Exited(0));
-    assert_eq!(rt;
-        told.closing.output.digest,
-        [
-            152, 234, 110, 79, 33, 111, 47, 180, 182, 159, 255, 155, 58, 68, 132, 44, 56, 104, 108,
-            166, 133, 243, 245, 93, 196, 140, 93, 63, 177, 16, 123, 228
-        ]
+    assert!(rt; told.closing.steps == 9);
+    assert!(rt; told.closing.end == End::Exited(0));
+    assert!(rt;
+        told.closing.output.digest
+            == [
+                152, 234, 110, 79, 33, 111, 47, 180, 182, 159, 255, 155, 58, 68, 132, 44, 56, 104,
+                108, 166, 133, 243, 245, 93, 196, 140, 93, 63, 177, 16, 123, 228
+            ]
     );
-    assert_eq!(rt; told.turns.len(), 1);
+    assert!(rt; told.turns.len() == 1);
     let mut out = Vec::new(alloc);
-    assert_eq!(rt; write_record(&told, &mut out).is_ok(), true);
+    assert!(rt; write_record(&told, &mut out).is_ok() == true);
     let again = read_record(alloc, out.as_slice());
-    assert_eq!(rt; again.is_ok(), true);
+    assert!(rt; again.is_ok() == true);
     let Ok(again) = again else {
         return;
     };
-    assert_eq!(rt; tried(alloc, &image, &again), Some(Ok(())));
+    assert!(rt; tried(alloc, &image, &again) == Some(Ok(())));
     told.closing.steps = 8;
-    assert_eq!(rt;
-        tried(alloc, &image, &told),
-        Some(Err(ReplayFault::OtherSteps))
-    );
+    assert!(rt; tried(alloc, &image, &told) == Some(Err(ReplayFault::OtherSteps)));
     told.closing.steps = 9;
     told.closing.end = End::Exited(1);
-    assert_eq!(rt;
-        tried(alloc, &image, &told),
-        Some(Err(ReplayFault::OtherEnd))
-    );
+    assert!(rt; tried(alloc, &image, &told) == Some(Err(ReplayFault::OtherEnd)));
     told.closing.end = End::Exited(0);
     told.closing.output.length = 4;
-    assert_eq!(rt;
-        tried(alloc, &image, &told),
-        Some(Err(ReplayFault::OtherOutput))
-    );
+    assert!(rt; tried(alloc, &image, &told) == Some(Err(ReplayFault::OtherOutput)));
     told.closing.output.length = 3;
     told.turns[0].hart = 1;
-    assert_eq!(rt;
-        tried(alloc, &image, &told),
-        Some(Err(ReplayFault::NotLive(0)))
-    );
+    assert!(rt; tried(alloc, &image, &told) == Some(Err(ReplayFault::NotLive(0))));
     told.turns[0].hart = 0;
     told.turns[0].count = 12;
     told.closing.steps = 12;
-    assert_eq!(rt;
-        tried(alloc, &image, &told),
-        Some(Err(ReplayFault::HasEnded(9)))
-    );
+    assert!(rt; tried(alloc, &image, &told) == Some(Err(ReplayFault::HasEnded(9))));
     told.turns[0].count = 5;
     told.closing.steps = 5;
-    assert_eq!(rt;
-        tried(alloc, &image, &told),
-        Some(Err(ReplayFault::OtherEnd))
-    );
+    assert!(rt; tried(alloc, &image, &told) == Some(Err(ReplayFault::OtherEnd)));
 }
 
 #[test]
 fn one_hart_has_one_turn(rt: HostRuntime) {
     let alloc = rt.alloc();
     let Ok(image) = Image::from_words(alloc, WORDS.as_slice()) else {
-        assert_eq!(rt; "an image", "none");
+        assert!(rt; "an image" == "none");
         return;
     };
     let steps = count_usual_steps(alloc, &image, Vec::new(alloc), 1000);
-    assert_eq!(rt; steps.ok(), Some(9));
-    assert_eq!(rt;
-        count_usual_steps(alloc, &image, Vec::new(alloc), 5).ok(),
-        Some(5)
-    );
+    assert!(rt; steps.ok() == Some(9));
+    assert!(rt; count_usual_steps(alloc, &image, Vec::new(alloc), 5).ok() == Some(5));
     let file = take_fingerprint(b"file");
     let way = Way::Priorities { depth: 3, steps: 9 };
     let Ok(told) = explore_run(alloc, &image, file, Vec::new(alloc), 7, way, 1000) else {
-        assert_eq!(rt; "a record", "none");
+        assert!(rt; "a record" == "none");
         return;
     };
-    assert_eq!(rt; told.closing.end, End::Exited(0));
-    assert_eq!(rt; told.turns.len(), 1);
-    assert_eq!(rt; tried(alloc, &image, &told), Some(Ok(())));
+    assert!(rt; told.closing.end == End::Exited(0));
+    assert!(rt; told.turns.len() == 1);
+    assert!(rt; tried(alloc, &image, &told) == Some(Ok(())));
 }
 
 /// What a replay of the program answers, where there is memory for it.

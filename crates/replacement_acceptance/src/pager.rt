@@ -29,29 +29,25 @@ fn admits_as_many_as_frames<L: Ledger>(
     for vpn in 1..5 {
         frames.push(pager.admit(page(vpn))?)?;
     }
-    assert_eq!(rt; pager.admit(page(5)).err(), Some(AdmitRefusal::NoFrame));
-    assert_eq!(rt;
-        pager.admit(page(1)).err(),
-        Some(AdmitRefusal::AlreadyResident)
-    );
-    assert_eq!(rt; pager.answer(Bit::Zero)?, Verdict::Victim(page(1)));
+    assert!(rt; pager.admit(page(5)).err() == Some(AdmitRefusal::NoFrame));
+    assert!(rt; pager.admit(page(1)).err() == Some(AdmitRefusal::AlreadyResident));
+    assert!(rt; pager.answer(Bit::Zero)? == Verdict::Victim(page(1)));
 
     // The victim's frame is not given back yet.
-    assert_eq!(rt; pager.admit(page(5)).err(), Some(AdmitRefusal::NoFrame));
+    assert!(rt; pager.admit(page(5)).err() == Some(AdmitRefusal::NoFrame));
     let frame = frames.pop().ok_or("no frame")?;
     assert!(rt; pager.free(frame).is_ok());
     frames.push(pager.admit(page(5))?)?;
     let counts = pager.counts();
-    assert_eq!(rt;
+    assert!(rt;
         (
             counts.free,
             counts.tallies.page_ins,
             counts.tallies.victims,
             counts.tallies.questions
-        ),
-        (0, 5, 1, 1)
+        ) == (0, 5, 1, 1)
     );
-    assert_eq!(rt; pager.purge(0), 5);
+    assert!(rt; pager.purge(0) == 5);
     Ok(())
 }
 

@@ -18,20 +18,18 @@ fn blinks_once(rt: HostRuntime) -> Result<(), Fail> {
     page[4095] = 12;
     for failing in 0..4 {
         let mut slot = BlinkSlot::new(rt.alloc(), failing)?;
-        assert_eq!(rt; slot.save(&page).is_err(), failing == 1);
+        assert!(rt; slot.save(&page).is_err() == (failing == 1));
         let kept = if failing == 1 { [0; 4096] } else { page };
         for call in 2..5 {
             let answer = loaded(&mut slot);
-            assert!(rt;
-                answer
-                    == if failing == call {
-                        Err(SlotFault)
-                    } else {
-                        Ok(kept)
-                    }
-            );
+            let wanted = if failing == call {
+                Err(SlotFault)
+            } else {
+                Ok(kept)
+            };
+            assert!(rt; answer == wanted);
         }
-        assert_eq!(rt; slot.failures(), failing.min(1));
+        assert!(rt; slot.failures() == failing.min(1));
     }
     Ok(())
 }
@@ -44,11 +42,11 @@ fn lies_once(rt: HostRuntime) -> Result<(), Fail> {
         let mut lie = page;
         lie[0] = if first == 12 { 13 } else { 12 };
         let mut slot = FlipSlot::new(rt.alloc(), 2)?;
-        assert_eq!(rt; slot.save(&page), Ok(()));
+        assert!(rt; slot.save(&page) == Ok(()));
         for wanted in [page, lie, page] {
             assert!(rt; loaded(&mut slot) == Ok(wanted));
         }
-        assert_eq!(rt; slot.failures(), 0);
+        assert!(rt; slot.failures() == 0);
     }
     Ok(())
 }

@@ -10,7 +10,7 @@ use Rattle.rv_exec.specs.Registers.{Registers}
 use Rattle.paged_memory.specs.Coheres.{Coheres}
 use Rattle.paged_memory.specs.Paged.{PagedValue, memory_of}
 use Rattle.paged_memory.specs.access.Ready.{ServesIn, KeepsReady}
-use Rattle.paged_memory.specs.access.ReadyLaws.{marked_still, takes_still}
+use Rattle.paged_memory.proofs.access_laws.ReadyLaws.{marked_still, ready_kept, takes_still}
 use Rattle.paged_memory.specs.access.Using.{MarkedIn}
 use Rattle.paged_memory.specs.Whole.{harts_in}
 use Rattle.space_core.specs.HartLoop.{RunsTo, RunsEach, RunsUntil}
@@ -34,7 +34,7 @@ module _ {S : Type 0} (held : S → List ℕ) (honest : Type 0) (hart : ℕ) whe
       bound = record { bound = λ use_test store_test used stored old. subst (λ (m : PagedValue S). MarkedIn m use_test store_test) (sym step.stayed.only) old };
     };
     leaves = λ k d h. takes_still hart a.1 b.1 step.stayed _ (step.stored k d h);
-    kept = step.stayed.kept;
+    kept = ready_kept hart a.1 b.1 step.stayed;
     coheres = step.stayed.coheres coheres;
   }
 

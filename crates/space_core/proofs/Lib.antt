@@ -12,6 +12,7 @@ pub mod Opened
 pub mod CodeKept
 pub mod CodeSpaces
 pub mod DecodedRuns
+pub mod OneRun
 pub mod Bounding
 pub mod StepsOn
 pub mod SliceChain

@@ -9,10 +9,10 @@ use Rattle.flat_machine.specs.Process.{Process, is_live, may_step, flat_run}
 use Rattle.flat_machine.proofs.RunLaws.{flat_run_none, flat_run_append}
 use Rattle.flat_machine.specs.Schedule.{written_out, room}
 use Rattle.flat_machine.proofs.StepLaws.{both, has_no_ending}
-use Rattle.paged_memory.specs.cleaning.CopiesLaws.{copies_itself, copies_on}
+use Rattle.paged_memory.proofs.cleaning_laws.CopiesLaws.{copies_itself, copies_on}
 use Rattle.paged_memory.specs.access.HartMemory.{MarksSince}
 use Rattle.paged_memory.specs.access.Missing.{TakesIn}
-use Rattle.paged_memory.specs.access.MissingLaws.{takes_with}
+use Rattle.paged_memory.proofs.access_laws.MissingLaws.{takes_with}
 use Rattle.paged_memory.specs.Paged.{PagedValue}
 use Rattle.space_core.specs.declared.progress.Slice.{Slice}
 use Rattle.space_core.specs.declared.progress.SliceStop.{SliceStop}
@@ -28,7 +28,7 @@ use Rattle.space_core.specs.StepByStep.{SlicesOne, StepsOn, StepsEach, SlicesEac
 use Rattle.space_core.proofs.Bounding.{bound_none, bound_then, bound_as}
 use Rattle.space_core.proofs.SliceMoves.{each_none, each_append, used_on}
 use Rattle.paged_memory.specs.access.Using.{cache_in, HasIn, LacksIn, MarkedIn}
-use Rattle.paged_memory.specs.access.HartMemoryLaws.{served_before}
+use Rattle.paged_memory.proofs.access_laws.HartMemoryLaws.{served_before}
 use Rattle.paged_memory.proofs.access_laws.UsingLaws.{goes_itself_in, goes_on_in, kept_itself, kept_on, lacked_in, resident_in}
 
 -- ---- so many, and then more

@@ -28,10 +28,10 @@ use Rattle.flat_machine.proofs.RunLaws.{flat_run_none, one_more_step}
 use Rattle.flat_machine.specs.Settling.{harts_after, ending_after, IfSpawns}
 use Rattle.flat_machine.proofs.SettlingLaws.{room_to_spawn, settled, harts_stay}
 use Rattle.paged_memory.specs.access.HartMemory.{KeepsAccess, UsedSince}
-use Rattle.paged_memory.specs.access.HartMemoryLaws.{access_on, served_before, used_since}
+use Rattle.paged_memory.proofs.access_laws.HartMemoryLaws.{access_on, served_before, used_since}
 use Rattle.paged_memory.proofs.access_laws.ShownLaws.{shown_back}
 use Rattle.paged_memory.specs.access.Missing.{MissesIn, TakesSince}
-use Rattle.paged_memory.specs.access.MissingLaws.{since_kept}
+use Rattle.paged_memory.proofs.access_laws.MissingLaws.{since_kept}
 use Rattle.paged_memory.proofs.access_laws.StoredLaws.{since_back}
 use Rattle.paged_memory.specs.Paged.{PagedValue, memory_of}
 use Rattle.paged_memory.specs.access.Using.{cache_in, HasIn, LacksIn, MarkedIn}

@@ -19,7 +19,7 @@ use Rattle.flat_machine.proofs.TurnsLaws.{one_more}
 use Rattle.paged_memory.specs.Coheres.{Coheres}
 use Rattle.paged_memory.specs.cleaning.Copies.{KeepsCopies}
 use Rattle.paged_memory.specs.access.HartMemory.{MarksSince, UsedSince, WasShown}
-use Rattle.paged_memory.specs.access.HartMemoryLaws.{access_itself}
+use Rattle.paged_memory.proofs.access_laws.HartMemoryLaws.{access_itself}
 use Rattle.paged_memory.specs.access.Missing.{TakesSince}
 use Rattle.paged_memory.specs.moves.Moving.{OnlyCaches, SameTablesIn}
 use Rattle.paged_memory.specs.Paged.{PagedValue, memory_of}

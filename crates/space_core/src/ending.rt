@@ -23,6 +23,7 @@ use std::sync::ledger::Ledger;
 use swap_slots::SwapSlot;
 
 /// Does what is left of a hart's step, once its instruction came to an outcome, on its process's memory.
+#[tactic(auto, using(paged_memory::proofs::access_laws::ToldLaws::kept_told))]
 fn finish_on<L: Ledger, S: SwapSlot, O: Opening>(
     env: &mut Env,
     hart: u32,

@@ -35,7 +35,7 @@ fn look_often<R: Wait + Abort>(rt: &R, mut viewer: Viewer) -> Viewer {
     for _ in 0..PAIRS {
         let now = viewer.look(rt);
         assert!(rt; before.steps <= now.steps && before.output <= now.output);
-        assert_eq!(rt; now.output / 2, now.steps, "a pair is seen whole");
+        assert!(rt; now.output / 2 == now.steps, "a pair is seen whole");
         before = now;
     }
     viewer
@@ -49,12 +49,12 @@ fn counts_never_fall_and_the_last_are_seen(rt: HostRuntime) -> Result<(), Fail> 
     let writing = thread::spawn(&rt, move || publish_all(&rt, writer))?;
     writing.join(&rt);
     let mut viewer = looking.join(&rt);
-    assert_eq!(rt; viewer.look(&rt), LAST);
+    assert!(rt; viewer.look(&rt) == LAST);
 
     let mut other = viewer.split()?;
-    assert_eq!(rt; viewer.look(&rt), LAST);
-    assert_eq!(rt; other.look(&rt), LAST);
+    assert!(rt; viewer.look(&rt) == LAST);
+    assert!(rt; other.look(&rt) == LAST);
     viewer.join(other);
-    assert_eq!(rt; viewer.look(&rt), LAST);
+    assert!(rt; viewer.look(&rt) == LAST);
     Ok(())
 }

@@ -110,11 +110,11 @@ fn sweeps_out<L: Ledger, S: SwapSlot, C: Clock, R: Wait + Abort>(
     assert!(rt; comes_in(rt, shared, DATA));
     let slice = shared.locks().slice(rt, 0, 0, 4).ok_or("no process")?;
     assert!(rt; matches!(slice.reply, Some(ran) if ran.ran == 4));
-    assert_eq!(rt; next_victim(rt, shared), Some(CODE));
+    assert!(rt; next_victim(rt, shared) == Some(CODE));
     shared.locks().notice(rt, 0, 0);
     let code = shared.collect(rt, CODE).ok_or("no process")?;
     assert!(rt; matches!(code.reply, Some(Looked::Freed)));
-    assert_eq!(rt; next_victim(rt, shared), Some(DATA));
+    assert!(rt; next_victim(rt, shared) == Some(DATA));
     shared.locks().notice(rt, 0, 0);
     let data = shared.collect(rt, DATA).ok_or("no process")?;
     let HoldOfAll { reply, .. } = data;
@@ -145,7 +145,7 @@ fn lists_no_damaged_page<L: Ledger, R: Wait + Abort>(
     let Some(PagedIn::Failed { admission, fault }) = reply else {
         return Err("the page has come in".into());
     };
-    assert_eq!(rt; fault, PageInFault::Damaged);
+    assert!(rt; fault == PageInFault::Damaged);
     shared.undo(rt, admission);
     assert!(rt; shared.audit(rt));
     let room = Vec::with_capacity(alloc, shared.processes() as usize)?;

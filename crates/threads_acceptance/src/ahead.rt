@@ -59,7 +59,7 @@ fn a_page_is_written_while_it_stays(rt: HostRuntime) -> Result<(), Fail> {
     let run = played(&rt, alloc, setting, slots, &[WRITES_A_SUM], &gate)?;
     expect(&rt, &run, &[(0, 114, b"B")]);
     assert!(rt; gate.saves.load(Ordering::SeqCst) != 0);
-    assert_eq!(rt; run.report.victims, 0);
+    assert!(rt; run.report.victims == 0);
     Ok(())
 }
 
@@ -84,6 +84,6 @@ fn no_page_is_cleaned_unasked(rt: HostRuntime) -> Result<(), Fail> {
     let alloc = rt.alloc();
     let slots = sound_slots(alloc, 32)?;
     let run = played_sum(&rt, alloc, ON_FOUR_FRAMES, slots)?;
-    assert_eq!(rt; run.cleans, None);
+    assert!(rt; run.cleans == None);
     Ok(())
 }

@@ -49,9 +49,9 @@ fn a_damaged_page_ends_its_process(rt: HostRuntime) -> Result<(), Fail> {
 /// The machine has ended the one process, which has written nothing.
 fn expect_killed(rt: &impl Abort, report: &Report, cause: KillCause) {
     assert!(rt; report.audit);
-    assert_eq!(rt; report.processes.len(), 1);
+    assert!(rt; report.processes.len() == 1);
     for process in report.processes.iter() {
-        assert_eq!(rt; process.end, Some(End::Killed(cause)));
+        assert!(rt; process.end == Some(End::Killed(cause)));
         assert!(rt; process.output.is_empty());
     }
 }
@@ -63,7 +63,7 @@ fn a_process_without_slots_is_ended(rt: HostRuntime) -> Result<(), Fail> {
     let run = played_sum(&rt, alloc, ON_FOUR_FRAMES, slots)?;
     expect_killed(&rt, &run.report, KillCause::NoSwap);
     for process in run.report.processes.iter() {
-        assert_eq!(rt; process.steps, 16);
+        assert!(rt; process.steps == 16);
     }
     Ok(())
 }
@@ -95,7 +95,7 @@ fn a_full_schedule_ends_its_process(rt: HostRuntime) -> Result<(), Fail> {
     let run = played(&rt, alloc, setting, slots, &[SPINS], &OpenGate)?;
     expect_killed(&rt, &run.report, KillCause::ScheduleFull);
     for process in run.report.processes.iter() {
-        assert_eq!(rt; process.steps, 1_000_004);
+        assert!(rt; process.steps == 1_000_004);
     }
     Ok(())
 }

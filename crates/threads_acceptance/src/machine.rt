@@ -97,10 +97,10 @@ pub(crate) fn played_sum<S: SwapSlot + Send, R: Threads + Wait + Sync>(
 /// Each process has ended by itself as is told.
 pub(crate) fn expect(rt: &impl Abort, run: &RunReport, told: &[Told<'_>]) {
     assert!(rt; run.report.audit);
-    assert_eq!(rt; run.report.processes.len(), told.len());
+    assert!(rt; run.report.processes.len() == told.len());
     for (process, (status, steps, output)) in run.report.processes.iter().zip(told.iter()) {
-        assert_eq!(rt; process.end, Some(End::Exited(*status)));
-        assert_eq!(rt; process.steps, *steps);
-        assert_eq!(rt; process.output.as_slice(), *output);
+        assert!(rt; process.end == Some(End::Exited(*status)));
+        assert!(rt; process.steps == *steps);
+        assert!(rt; process.output.as_slice() == *output);
     }
 }

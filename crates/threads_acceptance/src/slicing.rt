@@ -50,6 +50,6 @@ fn the_longest_slices_are_as_long_as_was_asked_for(rt: HostRuntime) -> Result<()
     let run = played(&rt, alloc, SETTING, slots, &[COUNTS], &gate)?;
     expect(&rt, &run, &[(2000, 6027, b"")]);
     assert!(rt; gate.whole.load(Ordering::SeqCst) != 0);
-    assert_eq!(rt; gate.longer.load(Ordering::SeqCst), 0);
+    assert!(rt; gate.longer.load(Ordering::SeqCst) == 0);
     Ok(())
 }

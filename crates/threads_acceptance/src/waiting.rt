@@ -42,7 +42,7 @@ fn harts_that_yield_wait_for_the_others(rt: HostRuntime) -> Result<(), Fail> {
             let run = played(&rt, alloc, setting, slots, &[TAKES_TURNS], &OpenGate)?;
             assert!(rt; run.report.audit);
             for process in run.report.processes.iter() {
-                assert_eq!(rt; process.end, Some(End::Exited(3200)));
+                assert!(rt; process.end == Some(End::Exited(3200)));
                 assert!(rt;
                     process.steps < 3 * TAKES_TURNS_STEPS,
                     "{} steps",
@@ -67,9 +67,9 @@ fn eight_processes_of_eight_harts_share_sixteen_frames(rt: HostRuntime) -> Resul
     let sources = [TAKES_TURNS; 8];
     let run = played(&rt, alloc, setting, slots, &sources, &OpenGate)?;
     assert!(rt; run.report.audit);
-    assert_eq!(rt; run.report.processes.len(), 8);
+    assert!(rt; run.report.processes.len() == 8);
     for process in run.report.processes.iter() {
-        assert_eq!(rt; process.end, Some(End::Exited(3200)));
+        assert!(rt; process.end == Some(End::Exited(3200)));
     }
     Ok(())
 }

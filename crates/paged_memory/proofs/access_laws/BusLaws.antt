@@ -18,10 +18,10 @@ use Rattle.paged_memory.specs.access.Access.{HasPage, KeepsBare, LacksPage, Mark
 use Rattle.paged_memory.specs.access.Accesses.{AnswersAccess, Accesses, Reads, Reserves, Writes}
 use Rattle.paged_memory.specs.access.HartMemory.{InTurn, KeepsAccess, MarksWithin, UsedSince}
 use Rattle.paged_memory.specs.access.OwnCache.{FilledFrom}
-use Rattle.paged_memory.specs.access.OwnCacheLaws.{filled_on, goes_filled}
-use Rattle.paged_memory.specs.access.HartMemoryLaws.{access_written}
+use Rattle.paged_memory.proofs.access_laws.OwnCacheLaws.{filled_on, goes_filled}
+use Rattle.paged_memory.proofs.access_laws.HartMemoryLaws.{access_written}
 use Rattle.paged_memory.specs.access.Missing.{MissesIn, TakesIn, TakesSince}
-use Rattle.paged_memory.specs.access.MissingLaws.{missed_behind, missed_now}
+use Rattle.paged_memory.proofs.access_laws.MissingLaws.{missed_behind, missed_now}
 use Rattle.paged_memory.specs.Paged.{PagedValue, memory_in, memory_of}
 use Rattle.paged_memory.proofs.access_laws.StoredLaws.{stored_dirty}
 use Rattle.paged_memory.proofs.Marking.{bounds_access, bounds_access_with, stores_of}

@@ -8,7 +8,7 @@ use Rattle.page_memory.specs.declared.words.Access.{Access}
 use Rattle.paged_memory.specs.access.Access.{Serves}
 use Rattle.paged_memory.specs.access.HartMemory.{WasShown}
 use Rattle.paged_memory.specs.access.OwnCache.{fills, fills_of, FilledFrom}
-use Rattle.paged_memory.specs.access.OwnCacheLaws.{filled_on, of_first, of_second, or_more}
+use Rattle.paged_memory.proofs.access_laws.OwnCacheLaws.{filled_on, of_first, of_second, or_more}
 
 -- a page that is there once a translation was filled was there, or is that one's
 there_before : (t : Translation) (page : ℕ) (cache : List Translation) → is_some (translation_of page (filled t cache)) ≡ true → (is_some (translation_of page cache) ≡ true) ⊎ ((t.page == page) ≡ true)

@@ -6,12 +6,12 @@ use Rattle.tlb_core.specs.Cache.{translation_of}
 use Rattle.paged_memory.specs.access.Access.{cache_of, is_resident}
 use Rattle.paged_memory.specs.Fresh.{AddsHart}
 use Rattle.paged_memory.specs.access.HartMemory.{KeepsAccess, MarksWithin}
-use Rattle.paged_memory.specs.access.HartMemoryLaws.{pages_itself, pages_on, lacked, had_resident, had}
+use Rattle.paged_memory.proofs.access_laws.HartMemoryLaws.{pages_itself, pages_on, lacked, had_resident, had}
 use Rattle.paged_memory.specs.moves.Moving.{SameCaches, SameEntries, OnlyCaches, OnlyPages}
 use Rattle.paged_memory.specs.access.Notices.{cleared, emptied}
 use Rattle.paged_memory.specs.Paged.{PagedValue, memory_of, seen_at}
 use Rattle.paged_memory.specs.access.OwnCache.{GoesOn}
-use Rattle.paged_memory.specs.access.OwnCacheLaws.{goes_itself, goes_on}
+use Rattle.paged_memory.proofs.access_laws.OwnCacheLaws.{goes_itself, goes_on}
 use Rattle.paged_memory.specs.access.Using.{HasIn, LacksIn, MarkedIn, KeepsIn, SameCache, HoldsNone, GoesOnIn, cache_in, holds_in}
 use Rattle.paged_memory.specs.Whole.{harts_in}
 

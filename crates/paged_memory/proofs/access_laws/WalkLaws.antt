@@ -23,7 +23,7 @@ use Rattle.paged_memory.specs.Soundness.{IsSound}
 use Rattle.paged_memory.specs.Calls.{IsResident}
 use Rattle.paged_memory.specs.access.Access.{cache_of, is_resident, HasPage, Reaches, Locates, KeepsTranslations}
 use Rattle.paged_memory.specs.access.OwnCache.{MayFill}
-use Rattle.paged_memory.specs.access.OwnCacheLaws.{goes_filled}
+use Rattle.paged_memory.proofs.access_laws.OwnCacheLaws.{goes_filled}
 use Rattle.paged_memory.specs.Paged.{page_at, seen_at, Holds, IsConstant}
 use Rattle.paged_memory.proofs.move_laws.PagedLaws.{Change, choice_other, changes_no_page, Holds-held}
 use Rattle.paged_memory.proofs.access_laws.CallLaws.{entry_at_changed, entry_resident, seen_resident, readable_resident, mapped_resident}

@@ -24,7 +24,7 @@ use Rattle.paged_memory.specs.Seen.{frame_seen, rights_seen, takes_stores, is_us
 use Rattle.paged_memory.specs.Soundness.{IsMapped}
 use Rattle.paged_memory.specs.access.Access.{Reaches, KeepsBare, bare_at}
 use Rattle.paged_memory.specs.Paged.{standing_of, seen_of, page_at, seen_at, flat_page, flat_pages, Holds, ChangesPage}
-use Rattle.paged_memory.specs.access.HartMemoryLaws.{seen_bare}
+use Rattle.paged_memory.proofs.access_laws.HartMemoryLaws.{seen_bare}
 use Rattle.paged_memory.proofs.SeenLaws.{stores_changed}
 use Rattle.paged_memory.proofs.access_laws.ReadLaws.{usable_reached}
 use Rattle.paged_memory.proofs.move_laws.PagedLaws.{Change, get-page_at, page_at-place, changes_at_place, changes_no_entry, Holds-held}

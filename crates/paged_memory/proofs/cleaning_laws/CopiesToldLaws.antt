@@ -6,7 +6,7 @@ use Rattle.page_store.specs.Keeping.{Keeping, NoSlot, Saved, Unbacked, Cleaning,
 use Rattle.page_store.specs.PageValue.{PageValue, Place, Fresh, Resident, Leaving, Saving, Away, Purged, slot_of}
 use Rattle.sv32_table.specs.EntryAt.{entry_at}
 use Rattle.paged_memory.specs.cleaning.Copies.{StandsAt, CopyStands, LeavesCopies, is_copied_in, if_out, told_of_place, told_of_page, told_in}
-use Rattle.paged_memory.specs.cleaning.CopiesLaws.{copies_itself, copies_on}
+use Rattle.paged_memory.proofs.cleaning_laws.CopiesLaws.{copies_itself, copies_on}
 use Rattle.paged_memory.specs.Counting.{page_passes}
 use Rattle.paged_memory.specs.Paged.{PagedValue, page_at}
 

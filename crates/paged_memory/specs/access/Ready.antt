@@ -19,9 +19,11 @@ module _ {S : Type 0} where
     pub takes : access ≡ Store → TakesStores memory.pages memory.tables page
     pub serves : Serves (cache_in memory hart) access page
 
-  -- nothing but bytes in frames changes; and pages, tables and caches go together if they did
+  -- nothing but bytes in frames changes, as by the hart's accesses, so that what was at hand is; and pages, tables and caches go together
+  -- if they did
   pub record KeepsReady (held : S → List ℕ) (honest : Type 0) (hart : ℕ) (old new : PagedValue S) : Type 0 where
     pub only : OnlyPages old new
     pub seen : (page : ℕ) → seen_at new.pages page ≡ seen_at old.pages page
-    pub kept : KeepsAccess hart old new
+    pub since : (start : PagedValue S) → KeepsAccess hart start old → KeepsAccess hart start new
+    pub serves : (access : Access) (page : ℕ) → ServesIn old hart access page → ServesIn new hart access page
     pub coheres : Coheres held honest old → Coheres held honest new

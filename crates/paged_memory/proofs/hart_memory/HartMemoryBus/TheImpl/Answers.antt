@@ -8,6 +8,7 @@ use Rattle.rv_exec.specs.Bounds.{Bounds}
 use Rattle.paged_memory.specs.access.HartMemory.{MarksWithin}
 use Rattle.paged_memory.specs.Paged.{PagedValue, memory_of}
 use Rattle.paged_memory.proofs.access_laws.BusLaws.{on_with, bus_answers, bus_bound, bus_bound_with, bus_leaves, bus_leaves_with, bus_leaves_written, bus_missed, bus_keeps, bus_keeps_written, bus_same, bus_refuses, bus_refuses_reserving}
+use Rattle.paged_memory.proofs.access_laws.ToldLaws.{told_kept}
 use Rattle.paged_memory.proofs.hart_memory.HartMemoryBus.TheImpl.Goals as goal
 
 pub fetch-tells : goal.fetch-tells
@@ -19,7 +20,7 @@ fetch-tells g c =
       same = bus_same c.args.self.now.hart Fetch c.args.address c.result old new g.S.SwapSlot.content c.ensures.reads;
       bound = bus_bound c.args.self.now.hart Fetch c.args.address c.result old new (fetched (memory_of g.S.SwapSlot.content old) c.args.address) c.ensures.reads.accesses c.ensures.answer;
       leaves = bus_leaves c.args.self.now.hart Fetch c.args.address c.result old new (fetched (memory_of g.S.SwapSlot.content old) c.args.address) _ (bus_missed c.args.self.now.hart Fetch c.args.address c.result old new c.new.self.now.hart c.ensures.hart c.ensures.reads.accesses) c.ensures.reads.accesses c.ensures.answer;
-      kept = (c.ensures.hart, c.ensures.same_reference, bus_keeps c.args.self.now.hart Fetch c.args.address c.result old new c.ensures.reads.accesses c.ensures.reads.pages);
+      kept = (c.ensures.hart, c.ensures.same_reference, told_kept c.args.self.now.hart g.O.Opening.opening old new (bus_keeps c.args.self.now.hart Fetch c.args.address c.result old new c.ensures.reads.accesses c.ensures.reads.pages));
     }
 
 pub load-tells : goal.load-tells
@@ -31,7 +32,7 @@ load-tells g c =
       same = bus_same c.args.self.now.hart Load c.args.address c.result old new g.S.SwapSlot.content c.ensures.reads;
       bound = bus_bound c.args.self.now.hart Load c.args.address c.result old new (loaded (memory_of g.S.SwapSlot.content old) c.args.width c.args.address) c.ensures.reads.accesses c.ensures.answer;
       leaves = bus_leaves c.args.self.now.hart Load c.args.address c.result old new (loaded (memory_of g.S.SwapSlot.content old) c.args.width c.args.address) (Unit {0}) tt c.ensures.reads.accesses c.ensures.answer;
-      kept = (c.ensures.hart, c.ensures.same_reference, bus_keeps c.args.self.now.hart Load c.args.address c.result old new c.ensures.reads.accesses c.ensures.reads.pages);
+      kept = (c.ensures.hart, c.ensures.same_reference, told_kept c.args.self.now.hart g.O.Opening.opening old new (bus_keeps c.args.self.now.hart Load c.args.address c.result old new c.ensures.reads.accesses c.ensures.reads.pages));
     }
 
 pub store-tells : goal.store-tells
@@ -43,7 +44,7 @@ store-tells g c =
       refused = bus_refuses c.args.self.now.hart Store c.args.address c.result old new g.S.SwapSlot.content c.ensures.writes;
       bound = bus_bound_with c.args.self.now.hart Store c.args.address c.result old new (stored (memory_of g.S.SwapSlot.content old) c.args.width c.args.address c.args.word) (λ _. memory_of g.S.SwapSlot.content new) c.ensures.writes.accesses c.ensures.answer;
       leaves = bus_leaves_written c.args.self.now.hart Store c.args.address c.result old new g.O.Opening.opening (stored (memory_of g.S.SwapSlot.content old) c.args.width c.args.address c.args.word) (λ _. memory_of g.S.SwapSlot.content new) refl c.args.self.now.in_turn c.ensures.writes c.ensures.answer;
-      kept = (c.ensures.hart, c.ensures.same_reference, bus_keeps_written c.args.self.now.hart Store c.args.address c.result old new c.ensures.writes);
+      kept = (c.ensures.hart, c.ensures.same_reference, told_kept c.args.self.now.hart g.O.Opening.opening old new (bus_keeps_written c.args.self.now.hart Store c.args.address c.result old new c.ensures.writes));
     }
 
 pub amo-tells : goal.amo-tells
@@ -55,7 +56,7 @@ amo-tells g c =
       refused = bus_refuses c.args.self.now.hart Store c.args.address c.result old new g.S.SwapSlot.content c.ensures.writes;
       bound = bus_bound_with c.args.self.now.hart Store c.args.address c.result old new (replaced (memory_of g.S.SwapSlot.content old) (λ old_word. amo_result c.args.operation old_word c.args.operand) c.args.address) (λ old_word. (old_word, memory_of g.S.SwapSlot.content new)) c.ensures.writes.accesses c.ensures.answer;
       leaves = bus_leaves_written c.args.self.now.hart Store c.args.address c.result old new g.O.Opening.opening (replaced (memory_of g.S.SwapSlot.content old) (λ old_word. amo_result c.args.operation old_word c.args.operand) c.args.address) (λ old_word. (old_word, memory_of g.S.SwapSlot.content new)) refl c.args.self.now.in_turn c.ensures.writes c.ensures.answer;
-      kept = (c.ensures.hart, c.ensures.same_reference, bus_keeps_written c.args.self.now.hart Store c.args.address c.result old new c.ensures.writes);
+      kept = (c.ensures.hart, c.ensures.same_reference, told_kept c.args.self.now.hart g.O.Opening.opening old new (bus_keeps_written c.args.self.now.hart Store c.args.address c.result old new c.ensures.writes));
     }
 
 pub load_reserved-tells : goal.load_reserved-tells
@@ -67,7 +68,7 @@ load_reserved-tells g c =
       refused = bus_refuses_reserving c.args.self.now.hart Load c.args.address c.result old new g.S.SwapSlot.content c.ensures.reserves;
       bound = subst (λ pages. Bounds (MarksWithin old.tables) (MarksWithin new.tables) pages []) (reserving_page (memory_of g.S.SwapSlot.content old) c.args.hart c.args.address) (bus_bound_with c.args.self.now.hart Load c.args.address c.result old new (loaded_reserved (memory_of g.S.SwapSlot.content old) c.args.hart c.args.address) (λ word. (word, memory_of g.S.SwapSlot.content new)) c.ensures.reserves.accesses c.ensures.answer);
       leaves = bus_leaves_with c.args.self.now.hart Load c.args.address c.result old new (loaded_reserved (memory_of g.S.SwapSlot.content old) c.args.hart c.args.address) (λ word. (word, memory_of g.S.SwapSlot.content new)) c.ensures.reserves.accesses c.ensures.answer;
-      kept = (c.ensures.hart, c.ensures.same_reference, bus_keeps c.args.self.now.hart Load c.args.address c.result old new c.ensures.reserves.accesses c.ensures.reserves.pages);
+      kept = (c.ensures.hart, c.ensures.same_reference, told_kept c.args.self.now.hart g.O.Opening.opening old new (bus_keeps c.args.self.now.hart Load c.args.address c.result old new c.ensures.reserves.accesses c.ensures.reserves.pages));
     }
 
 pub store_conditional-tells : goal.store_conditional-tells
@@ -80,7 +81,7 @@ store_conditional-tells g c =
       bound = subst (λ pages. Bounds (MarksWithin old.tables) (MarksWithin new.tables) pages pages) (conditional_page (memory_of g.S.SwapSlot.content old) c.args.hart c.args.address c.args.word)
           (bus_bound_with c.args.self.now.hart Store c.args.address c.result old new (stored_conditionally (memory_of g.S.SwapSlot.content old) c.args.hart c.args.address c.args.word) (λ is_stored. (is_stored, memory_of g.S.SwapSlot.content new)) c.ensures.writes.accesses c.ensures.answer);
       leaves = bus_leaves_written c.args.self.now.hart Store c.args.address c.result old new g.O.Opening.opening (stored_conditionally (memory_of g.S.SwapSlot.content old) c.args.hart c.args.address c.args.word) (λ is_stored. (is_stored, memory_of g.S.SwapSlot.content new)) refl c.args.self.now.in_turn c.ensures.writes c.ensures.answer;
-      kept = (c.ensures.hart, c.ensures.same_reference, bus_keeps_written c.args.self.now.hart Store c.args.address c.result old new c.ensures.writes);
+      kept = (c.ensures.hart, c.ensures.same_reference, told_kept c.args.self.now.hart g.O.Opening.opening old new (bus_keeps_written c.args.self.now.hart Store c.args.address c.result old new c.ensures.writes));
     }
 
 pub copy_out-tells : goal.copy_out-tells
@@ -93,7 +94,7 @@ copy_out-tells g c =
       refused = c.ensures.refused;
       bound = bus_bound_with c.args.self.now.hart Load c.args.address c.result old new (copied_out (memory_of g.S.SwapSlot.content old) c.args.address (length c.args.to.now)) (λ _. c.new.to.now) c.ensures.reads.accesses c.ensures.answer;
       leaves = bus_leaves_with c.args.self.now.hart Load c.args.address c.result old new (copied_out (memory_of g.S.SwapSlot.content old) c.args.address (length c.args.to.now)) (λ _. c.new.to.now) c.ensures.reads.accesses c.ensures.answer;
-      kept = (c.ensures.hart, c.ensures.same_reference, bus_keeps c.args.self.now.hart Load c.args.address c.result old new c.ensures.reads.accesses c.ensures.reads.pages);
+      kept = (c.ensures.hart, c.ensures.same_reference, told_kept c.args.self.now.hart g.O.Opening.opening old new (bus_keeps c.args.self.now.hart Load c.args.address c.result old new c.ensures.reads.accesses c.ensures.reads.pages));
     }
 
 pub copy_in-tells : goal.copy_in-tells
@@ -105,5 +106,5 @@ copy_in-tells g c =
       refused = bus_refuses c.args.self.now.hart Store c.args.address c.result old new g.S.SwapSlot.content c.ensures.writes;
       bound = bus_bound_with c.args.self.now.hart Store c.args.address c.result old new (copied_in (memory_of g.S.SwapSlot.content old) c.args.address c.args.from.now) (λ _. memory_of g.S.SwapSlot.content new) c.ensures.writes.accesses c.ensures.answer;
       leaves = bus_leaves_written c.args.self.now.hart Store c.args.address c.result old new g.O.Opening.opening (copied_in (memory_of g.S.SwapSlot.content old) c.args.address c.args.from.now) (λ _. memory_of g.S.SwapSlot.content new) refl c.args.self.now.in_turn c.ensures.writes c.ensures.answer;
-      kept = (c.ensures.hart, c.ensures.same_reference, bus_keeps_written c.args.self.now.hart Store c.args.address c.result old new c.ensures.writes);
+      kept = (c.ensures.hart, c.ensures.same_reference, told_kept c.args.self.now.hart g.O.Opening.opening old new (bus_keeps_written c.args.self.now.hart Store c.args.address c.result old new c.ensures.writes));
     }

@@ -8,10 +8,10 @@ use Rattle.sv32_table.specs.EntryAt.{entry_at}
 use Rattle.tlb_core.specs.declared.translation.Translation.{Translation}
 use Rattle.tlb_core.specs.Cache.{Hits}
 use Rattle.paged_memory.specs.access.HartMemory.{KeepsAccess, KeepsPages}
-use Rattle.paged_memory.specs.access.HartMemoryLaws.{by_seen}
+use Rattle.paged_memory.proofs.access_laws.HartMemoryLaws.{by_seen}
 use Rattle.paged_memory.specs.access.Missing.{is_among, MissesBehind, TakesIn, TakesSince}
 use Rattle.paged_memory.specs.access.OwnCache.{FilledFrom, MayFill}
-use Rattle.paged_memory.specs.access.OwnCacheLaws.{filled_itself, filled_on, filled_page}
+use Rattle.paged_memory.proofs.access_laws.OwnCacheLaws.{filled_itself, filled_on, filled_page}
 use Rattle.paged_memory.specs.Paged.{PagedValue, seen_at}
 use Rattle.paged_memory.specs.Seen.{is_dirty, loose_seen}
 

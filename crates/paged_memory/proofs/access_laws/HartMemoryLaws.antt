@@ -12,9 +12,9 @@ use Rattle.tlb_core.specs.Cache.{translation_of}
 use Rattle.paged_memory.specs.Seen.{Seen, is_used, is_dirty, takes_stores}
 use Rattle.paged_memory.specs.Paged.{PagedValue, standing_of, seen_of, page_at, seen_at}
 use Rattle.paged_memory.specs.access.Access.{HasPage, LacksPage, KeepsBare, KeepsTranslations, TakesStores, cache_of, is_resident}
-use Rattle.paged_memory.specs.cleaning.CopiesLaws.{copies_itself, copies_on, copies_kept}
+use Rattle.paged_memory.proofs.cleaning_laws.CopiesLaws.{copies_itself, copies_on, copies_kept}
 use Rattle.paged_memory.specs.access.OwnCache.{FilledFrom, GoesOn, KeepsDoomed}
-use Rattle.paged_memory.specs.access.OwnCacheLaws.{filled_itself, filled_on, goes_itself, goes_on, goes_filled, of_first}
+use Rattle.paged_memory.proofs.access_laws.OwnCacheLaws.{filled_itself, filled_on, goes_itself, goes_on, goes_filled, of_first}
 use Rattle.paged_memory.specs.access.HartMemory.{InTurn, KeepsPages, KeepsAccess, MarksSince, ServedBefore, UsedSince, WasShown}
 
 -- what went through a translation that is to be dropped went through the one that was there before

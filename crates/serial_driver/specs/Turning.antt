@@ -93,26 +93,19 @@ module _ {S : Type 0} (honest : Type 0) (core : CoreValue S) where
   abbrev pub MayStep : Phase → Turn → ℕ → ℕ → Type 0
   MayStep (Begins last) turn process hart = IsNextHart honest core turn.process last process hart
   MayStep Runs turn process hart = (process ≡ turn.process) × (hart ≡ turn.hart)
-  MayStep Rests turn process hart = ⊥
-  MayStep Waits turn process hart = ⊥
-  MayStep (Clears victim last) turn process hart = ⊥
+  MayStep _ turn process hart = ⊥
 
 module _ {S : Type 0} (core : CoreValue S) where
   -- which may drop its translations: the one whose turn is over, or, while one waits, the next live one of the victim's process
   abbrev pub MayNotice : Phase → Turn → ℕ → ℕ → Type 0
-  MayNotice (Begins last) turn process hart = ⊥
-  MayNotice Runs turn process hart = ⊥
   MayNotice Rests turn process hart = (process ≡ turn.process) × (hart ≡ turn.hart)
-  MayNotice Waits turn process hart = ⊥
   MayNotice (Clears victim last) turn process hart = (process ≡ victim.process) × IsLeastAbove core victim.process last hart
+  MayNotice _ turn process hart = ⊥
 
   -- which page may be looked at: the victim, once each live hart of its process has dropped its translations
   abbrev pub MayCollect : Phase → Key → Type 0
-  MayCollect (Begins last) key = ⊥
-  MayCollect Runs key = ⊥
-  MayCollect Rests key = ⊥
-  MayCollect Waits key = ⊥
   MayCollect (Clears victim last) key = (key ≡ victim) × NoneAbove core victim.process last
+  MayCollect _ key = ⊥
 
 -- a process may be ended, and may give back what it has, at any time; no other event is a part of a run
 abbrev pub EndsProcess : Event → Type 0

@@ -8,7 +8,6 @@ use flat_machine::{End, KillCause};
 use machine_core::Report;
 use std::alloc::Global;
 use std::process::Abort;
-use std::test::Fail;
 
 /// More events than any of the runs takes that ends by itself.
 const AMPLE: u64 = 100_000;
@@ -22,70 +21,62 @@ const DAMAGED: Option<End> = Some(End::Killed(KillCause::Damaged));
 const NO_MEMORY: Option<End> = Some(End::Killed(KillCause::NoMemory));
 
 /// The processes have ended so, after so many instructions.
-pub(crate) fn tells(
+pub(crate) fn tells(rt: &impl Abort, alloc: Global, report: &Report, told: &[(Option<End>, u64)]) {
+    assert!(rt; report.audit);
+    assert!(rt; endings(rt, alloc, report).as_slice() == told);
+}
+
+/// The only process has ended so, after so many instructions and page-ins.
+fn tells_of_one(
     rt: &impl Abort,
     alloc: Global,
     report: &Report,
-    told: &[(Option<End>, u64)],
-) -> Result<(), Fail> {
-    assert!(rt; report.audit);
-    assert!(rt; endings(alloc, report)?.as_slice() == told);
-    Ok(())
+    page_ins: u64,
+    told: (Option<End>, u64),
+) {
+    assert!(rt; report.page_ins == page_ins);
+    tells(rt, alloc, report, &[told]);
 }
 
 /// Ten pages come in, and the next is tried for three times.
 #[test]
-fn loads_that_fail_end_a_process(rt: HostRuntime) -> Result<(), Fail> {
+fn loads_that_fail_end_a_process(rt: HostRuntime) {
     let alloc = rt.alloc();
-    let report = played(
-        alloc,
-        slots_without_loads(alloc, 6)?,
-        processes(alloc, 1, SPREADS)?,
-        1000,
-        AMPLE,
-    )?;
-    assert!(rt; report.page_ins == 13);
-    tells(&rt, alloc, &report, &[(LOAD_FAILED, 46)])
+    let slots = slots_without_loads(&rt, alloc, 6);
+    let starts = processes(&rt, alloc, 1, SPREADS);
+    let report = played(&rt, alloc, slots, starts, 1000, AMPLE);
+    tells_of_one(&rt, alloc, &report, 13, (LOAD_FAILED, 46));
 }
 
 /// The same page is damaged, and is tried for once.
 #[test]
-fn a_damaged_page_ends_a_process_at_once(rt: HostRuntime) -> Result<(), Fail> {
+fn a_damaged_page_ends_a_process_at_once(rt: HostRuntime) {
     let alloc = rt.alloc();
-    let report = played(
-        alloc,
-        liars(alloc, 6)?,
-        processes(alloc, 1, SPREADS)?,
-        1000,
-        AMPLE,
-    )?;
-    assert!(rt; report.page_ins == 11);
-    tells(&rt, alloc, &report, &[(DAMAGED, 46)])
+    let slots = liars(&rt, alloc, 6);
+    let starts = processes(&rt, alloc, 1, SPREADS);
+    let report = played(&rt, alloc, slots, starts, 1000, AMPLE);
+    tells_of_one(&rt, alloc, &report, 11, (DAMAGED, 46));
 }
 
 /// The list finds no memory for the page of the first instruction. The other processes run on.
 #[test]
-fn with_no_memory_a_process_ends_at_once(rt: HostRuntime) -> Result<(), Fail> {
+fn with_no_memory_a_process_ends_at_once(rt: HostRuntime) {
     let alloc = rt.alloc();
-    let report = played_scantly(
-        alloc,
-        sound(alloc, 23)?,
-        processes(alloc, 3, SPREADS)?,
-        7,
-        AMPLE,
-    )?;
+    let slots = sound(&rt, alloc, 23);
+    let starts = processes(&rt, alloc, 3, SPREADS);
+    let report = played_scantly(&rt, alloc, slots, starts, 7, AMPLE);
     let ends = Some(End::Exited(36));
     tells(
         &rt,
         alloc,
         &report,
         &[(NO_MEMORY, 0), (ends, 83), (ends, 83)],
-    )
+    );
 }
 
 /// A slot is saved to and loaded from in turn, so that each call more that passes brings the process further, up to its end.
 #[test]
-fn fuses_end_a_process_where_they_blow(rt: HostRuntime) -> Result<(), Fail> {
+fn fuses_end_a_process_where_they_blow(rt: HostRuntime) {
     let alloc = rt.alloc();
     for (passes, end, steps) in [
         (0, NO_SWAP, 28),
@@ -95,14 +86,9 @@ fn fuses_end_a_process_where_they_blow(rt: HostRuntime) -> Result<(), Fail> {
         (4, NO_SWAP, 136),
         (5, Some(End::Exited(63)), 147),
     ] {
-        let report = played(
-            alloc,
-            fuses(alloc, 6, passes)?,
-            processes(alloc, 1, ROUNDS)?,
-            1000,
-            AMPLE,
-        )?;
-        tells(&rt, alloc, &report, &[(end, steps)])?;
+        let slots = fuses(&rt, alloc, 6, passes);
+        let starts = processes(&rt, alloc, 1, ROUNDS);
+        let report = played(&rt, alloc, slots, starts, 1000, AMPLE);
+        tells(&rt, alloc, &report, &[(end, steps)]);
     }
-    Ok(())
 }

@@ -5,6 +5,7 @@ ghost use Rattle.std.specs.Prelude.{OnOk, OnErr};
 ghost use Rattle.swap_slots.specs.Slot.{Rose};
 
 use std::alloc::{AllocError, Global};
+use std::process::Abort;
 use swap_slots::{MemorySlot, SlotFault, SwapSlot};
 
 /// A slot in memory whose first calls fail, so many of them.
@@ -76,13 +77,15 @@ impl SwapSlot for LateSlot {
 
 /// So many slots, of each of which so many calls fail first.
 pub(crate) fn late_slots(
+    rt: &impl Abort,
     alloc: Global,
     count: u32,
     failing: u64,
-) -> Result<Vec<LateSlot>, AllocError> {
+) -> Vec<LateSlot> {
     let mut slots = Vec::new(alloc);
     for _ in 0..count {
-        slots.push(LateSlot::new(alloc, failing)?)?;
+        let slot = LateSlot::new(alloc, failing).expect(rt, "no slot");
+        slots.push(slot).expect(rt, "no slots");
     }
-    Ok(slots)
+    slots
 }

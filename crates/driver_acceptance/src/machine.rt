@@ -10,98 +10,113 @@ use flat_machine::End;
 use machine_core::{Core, Report};
 use rv_asm::assemble;
 use serial_driver::run_serial;
-use std::alloc::{AllocError, Global};
+use std::alloc::Global;
 use std::marker::Brand;
+use std::process::Abort;
 use std::sync::ledger::{Blank, Ledger};
-use std::test::Fail;
 use swap_slots::{FuseSlot, SwapSlot};
 use test_slots::FlipSlot;
 
+/// The image of a source.
+pub(crate) fn image_of(rt: &impl Abort, alloc: Global, source: &str) -> Image {
+    assemble(alloc, source)
+        .expect(rt, "the source has a fault")
+        .into_image()
+}
+
 /// Processes that all run this source, on no input.
 pub(crate) fn processes(
+    rt: &impl Abort,
     alloc: Global,
     count: u32,
     source: &str,
-) -> Result<Vec<(Image, Vec<u8>)>, Fail> {
+) -> Vec<(Image, Vec<u8>)> {
     let mut starts = Vec::new(alloc);
     for _ in 0..count {
-        let listing = assemble(alloc, source).map_err(|_| "the source has a fault")?;
-        starts.push((listing.into_image(), Vec::new(alloc)))?;
+        let image = image_of(rt, alloc, source);
+        starts
+            .push((image, Vec::new(alloc)))
+            .expect(rt, "no processes");
     }
-    Ok(starts)
+    starts
 }
 
 /// Slots of each of which so many calls succeed.
-pub(crate) fn fuses(alloc: Global, count: u32, passes: u64) -> Result<Vec<FuseSlot>, AllocError> {
+pub(crate) fn fuses(rt: &impl Abort, alloc: Global, count: u32, passes: u64) -> Vec<FuseSlot> {
     let mut slots = Vec::new(alloc);
     for _ in 0..count {
-        slots.push(FuseSlot::new(alloc, passes)?)?;
+        let slot = FuseSlot::new(alloc, passes).expect(rt, "no slot");
+        slots.push(slot).expect(rt, "no slots");
     }
-    Ok(slots)
+    slots
 }
 
 /// Slots of each of which the first load lies.
-pub(crate) fn liars(alloc: Global, count: u32) -> Result<Vec<FlipSlot>, AllocError> {
+pub(crate) fn liars(rt: &impl Abort, alloc: Global, count: u32) -> Vec<FlipSlot> {
     let mut slots = Vec::new(alloc);
     for _ in 0..count {
-        slots.push(FlipSlot::new(alloc, 1)?)?;
+        let slot = FlipSlot::new(alloc, 1).expect(rt, "no slot");
+        slots.push(slot).expect(rt, "no slots");
     }
-    Ok(slots)
+    slots
 }
 
 /// Slots whose calls succeed.
-pub(crate) fn sound(alloc: Global, count: u32) -> Result<Vec<FuseSlot>, AllocError> {
-    fuses(alloc, count, u64::MAX)
+pub(crate) fn sound(rt: &impl Abort, alloc: Global, count: u32) -> Vec<FuseSlot> {
+    fuses(rt, alloc, count, u64::MAX)
 }
 
 /// What a machine of four frames has come to.
 pub(crate) fn played<S: SwapSlot>(
+    rt: &impl Abort,
     alloc: Global,
     slots: Vec<S>,
     processes: Vec<(Image, Vec<u8>)>,
     slice: u32,
     limit: u64,
-) -> Result<Report, Fail> {
-    played_with::<Brand, S, ClockRing>(alloc, Blank::new(5), slots, processes, slice, limit)
+) -> Report {
+    played_with::<Brand, S, ClockRing>(rt, alloc, Blank::new(5), slots, processes, slice, limit)
 }
 
 /// The same where the list finds no memory for the first page.
 pub(crate) fn played_scantly<S: SwapSlot>(
+    rt: &impl Abort,
     alloc: Global,
     slots: Vec<S>,
     processes: Vec<(Image, Vec<u8>)>,
     slice: u32,
     limit: u64,
-) -> Result<Report, Fail> {
-    played_with::<Brand, S, ScantList>(alloc, Blank::new(5), slots, processes, slice, limit)
+) -> Report {
+    played_with::<Brand, S, ScantList>(rt, alloc, Blank::new(5), slots, processes, slice, limit)
 }
 
 fn played_with<L: Ledger, S: SwapSlot, C: Clock>(
+    rt: &impl Abort,
     alloc: Global,
     blank: Blank,
     slots: Vec<S>,
     processes: Vec<(Image, Vec<u8>)>,
     slice: u32,
     limit: u64,
-) -> Result<Report, Fail>
+) -> Report
     requires name { blank.name ≡ L.name }
     requires parts { blank.parts ≡ L.parts }
     requires one_each { L.parts ≡ 5 }
 {
-    let mut core: Core<L, S, C> = Core::new(alloc, 4, blank, slots, processes).map_err(
-        |_| "no machine",
-    )?;
-    Ok(run_serial(alloc, &mut core, slice, limit)?)
+    let mut core: Core<L, S, C> = Core::new(alloc, 4, blank, slots, processes).expect(
+        rt,
+        "no machine",
+    );
+    run_serial(alloc, &mut core, slice, limit).expect(rt, "no report")
 }
 
 /// How each process ended, and how many instructions it ran.
-pub(crate) fn endings(
-    alloc: Global,
-    report: &Report,
-) -> Result<Vec<(Option<End>, u64)>, AllocError> {
+pub(crate) fn endings(rt: &impl Abort, alloc: Global, report: &Report) -> Vec<(Option<End>, u64)> {
     let mut endings = Vec::new(alloc);
     for line in report.processes.as_slice() {
-        endings.push((line.end, line.steps))?;
+        endings
+            .push((line.end, line.steps))
+            .expect(rt, "no endings");
     }
-    Ok(endings)
+    endings
 }

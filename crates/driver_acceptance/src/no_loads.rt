@@ -5,6 +5,7 @@ ghost use Rattle.std.specs.Prelude.{OnErr, false};
 ghost use Rattle.swap_slots.specs.Slot.{Rose};
 
 use std::alloc::{AllocError, Global};
+use std::process::Abort;
 use swap_slots::{MemorySlot, SlotFault, SwapSlot};
 
 /// A slot in memory whose saves succeed, and whose loads fail.
@@ -53,10 +54,11 @@ impl SwapSlot for NoLoads {
 }
 
 /// So many such slots.
-pub(crate) fn slots_without_loads(alloc: Global, count: u32) -> Result<Vec<NoLoads>, AllocError> {
+pub(crate) fn slots_without_loads(rt: &impl Abort, alloc: Global, count: u32) -> Vec<NoLoads> {
     let mut slots = Vec::new(alloc);
     for _ in 0..count {
-        slots.push(NoLoads::new(alloc)?)?;
+        let slot = NoLoads::new(alloc).expect(rt, "no slot");
+        slots.push(slot).expect(rt, "no slots");
     }
-    Ok(slots)
+    slots
 }

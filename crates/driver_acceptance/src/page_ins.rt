@@ -2,6 +2,7 @@
 
 ghost use Rattle.std.specs.Prelude.{◌≡◌, ◌≤◌, ◌+◌};
 
+use crate::machine::{image_of, processes};
 use clock_policy::Key;
 use clock_ring::ClockRing;
 use elf_image::Image;
@@ -9,12 +10,11 @@ use flat_machine::FlatProcess;
 use guest_strings::{AccessKinds, GuestString};
 use machine_core::Core;
 use page_policies::{Frames, misses};
-use rv_asm::assemble;
 use serial_driver::run_serial;
 use std::alloc::Global;
 use std::marker::Brand;
+use std::process::Abort;
 use std::sync::ledger::{Blank, Ledger};
-use std::test::Fail;
 use swap_slots::MemorySlot;
 use younger_policies::ClockProUsed;
 
@@ -81,71 +81,78 @@ hop:    slli t2, t1, 12
         ecall
 ";
 
-fn image_of(alloc: Global, source: &str) -> Result<Image, Fail> {
-    let listing = assemble(alloc, source).map_err(|_| "the source has a fault")?;
-    Ok(listing.into_image())
-}
-
-/// What CLOCK-Pro misses of the string of a guest.
-fn misses_of(alloc: Global, frames: Frames, source: &str) -> Result<usize, Fail> {
-    let mut processes = Vec::new(alloc);
-    let image = image_of(alloc, source)?;
-    processes.push(FlatProcess::new(alloc, &image, Vec::new(alloc))?)?;
-    let mut guest = GuestString::new(processes, AccessKinds::All, 1000, 100_000);
+/// The pages that a guest uses, one after another.
+fn string_of(rt: &impl Abort, alloc: Global, guest: &mut GuestString) -> Vec<Key> {
     let mut string: Vec<Key> = Vec::new(alloc);
     for _ in 0..100_000 {
-        match guest.next()? {
-            Some(reference) => string.push(reference.page)?,
+        match guest.next().expect(rt, "no reference") {
+            Some(reference) => string.push(reference.page).expect(rt, "no string"),
             None => break,
         }
     }
-    Ok(misses::<ClockProUsed<ClockRing>>(alloc, frames, string.as_slice())?)
+    string
+}
+
+/// What CLOCK-Pro misses of the string of a guest.
+fn misses_of(rt: &impl Abort, alloc: Global, frames: Frames, source: &str) -> usize {
+    let image = image_of(rt, alloc, source);
+    let flat = FlatProcess::new(alloc, &image, Vec::new(alloc)).expect(rt, "no flat process");
+    let flats = vec![in alloc; flat].expect(rt, "no flat processes");
+    let mut guest = GuestString::new(flats, AccessKinds::All, 1000, 100_000);
+    let string = string_of(rt, alloc, &mut guest);
+    misses::<ClockProUsed<ClockRing>>(alloc, frames, string.as_slice()).expect(rt, "no count")
 }
 
 /// How many pages a machine brings in, by slices of so many instructions.
-fn page_ins(alloc: Global, frames: u32, slice: u32, source: &str) -> Result<u64, Fail> {
-    let mut starts = Vec::new(alloc);
-    starts.push((image_of(alloc, source)?, Vec::new(alloc)))?;
+fn page_ins(rt: &impl Abort, alloc: Global, frames: u32, slice: u32, source: &str) -> u64 {
+    let starts = processes(rt, alloc, 1, source);
     let blank = Blank::new(u64::from(frames) + 1);
-    page_ins_with::<Brand>(alloc, blank, frames, slice, starts)
+    page_ins_with::<Brand>(rt, alloc, blank, frames, slice, starts)
+}
+
+fn memory_slots(rt: &impl Abort, alloc: Global) -> Vec<MemorySlot> {
+    let mut slots = Vec::new(alloc);
+    for _ in 0..20 {
+        let slot = MemorySlot::new(alloc).expect(rt, "no slot");
+        slots.push(slot).expect(rt, "no slots");
+    }
+    slots
 }
 
 fn page_ins_with<L: Ledger>(
+    rt: &impl Abort,
     alloc: Global,
     blank: Blank,
     frames: u32,
     slice: u32,
     starts: Vec<(Image, Vec<u8>)>,
-) -> Result<u64, Fail>
+) -> u64
     requires name { blank.name ≡ L.name }
     requires parts { blank.parts ≡ L.parts }
     requires one_each { L.parts ≡ frames + 1 }
 {
-    let mut slots = Vec::new(alloc);
-    for _ in 0..20 {
-        slots.push(MemorySlot::new(alloc)?)?;
-    }
+    let slots = memory_slots(rt, alloc);
     let mut core: Core<L, MemorySlot, ClockRing> = Core::new(
         alloc, frames, blank, slots, starts,
-    ).map_err(|_| "no machine")?;
-    let report = run_serial(alloc, &mut core, slice, 100_000)?;
-    Ok(report.page_ins)
+    ).expect(rt, "no machine");
+    let report = run_serial(alloc, &mut core, slice, 100_000).expect(rt, "no report");
+    report.page_ins
+}
+
+/// A guest's misses on so many frames, and the pages that a machine brings in by short slices and by long ones.
+fn are_so_many(rt: &impl Abort, alloc: Global, source: &str, frames: u32, count: usize) {
+    let policy_frames = Frames::new(frames as usize).expect(rt, "no such frames");
+    assert!(rt; misses_of(rt, alloc, policy_frames, source) == count);
+    for slice in [1, 1000] {
+        assert!(rt; page_ins(rt, alloc, frames, slice, source) == count as u64);
+    }
 }
 
 /// The counts are those of `tests/policies-model`.
 #[test]
-fn misses_are_page_ins(rt: HostRuntime) -> Result<(), Fail> {
-    let alloc = rt.alloc();
-    let (Some(four), Some(eight)) = (Frames::new(4), Frames::new(8)) else {
-        return Err(Fail::from("no such frames"));
-    };
+fn misses_are_page_ins(rt: HostRuntime) {
     for (source, of_four, of_eight) in [(ELEVEN, 21, 19), (ROUND, 72, 36), (HOPS, 244, 224)] {
-        assert!(rt; misses_of(alloc, four, source)? == of_four);
-        assert!(rt; misses_of(alloc, eight, source)? == of_eight);
-        for slice in [1, 1000] {
-            assert!(rt; page_ins(alloc, 4, slice, source)? == of_four as u64);
-            assert!(rt; page_ins(alloc, 8, slice, source)? == of_eight as u64);
-        }
+        are_so_many(&rt, rt.alloc(), source, 4, of_four);
+        are_so_many(&rt, rt.alloc(), source, 8, of_eight);
     }
-    Ok(())
 }

@@ -12,6 +12,7 @@ use guest_history::{History, HistoryFault, converse_back};
 use image_files::{Fault, Folder, read_image, read_input};
 use record_commands::{read_recorded_image, read_told};
 use run_paths::{Program, RunFault};
+use run_records::Record;
 use std::alloc::Global;
 use std::io::{Read, Write};
 
@@ -71,14 +72,25 @@ fn recorded_history<'a, R: Folder + AllocGlobal>(
 ) -> Result<History, Wrong<'a>>
     ensures { IfOk result Stands }
 {
-    let alloc = rt.alloc();
     let told = read_told(rt, record)?;
-    let image = read_recorded_image(rt, request.image, &told)?;
-    let input = read_recorded_input(rt, request.input, &told)?;
+    history_by(rt, request, record, &told)
+}
+
+/// The same of a record that was read.
+fn history_by<'a, R: Folder + AllocGlobal>(
+    rt: &R,
+    request: DebugRequest<'a>,
+    record: &'a str,
+    told: &Record,
+) -> Result<History, Wrong<'a>>
+    ensures { IfOk result Stands }
+{
+    let image = read_recorded_image(rt, request.image, told)?;
+    let input = read_recorded_input(rt, request.input, told)?;
     let program = Program { image, input };
-    check_record(alloc, record, &program, &told)?;
+    check_record(rt.alloc(), record, &program, told)?;
     let turns = told.turns.as_slice();
-    begun(History::recorded(alloc, program, turns), request.image)
+    begun(History::recorded(rt.alloc(), program, turns), request.image)
 }
 
 /// A debugger, where it could be had.

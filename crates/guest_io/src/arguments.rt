@@ -19,8 +19,8 @@ pub fn with_command<'a>(
     ensures { (app : App) → Reads app command.entry →
         Reads (with_subcommand bare_guest app.top) result }
 {
-    let app = bare(alloc);
-    app.subcommand(command?)
+    let command = command?;
+    bare(alloc).subcommand(command)
 }
 
 /// The program with no command.

@@ -2,7 +2,7 @@
 
 ghost use Rattle.std.specs.Prelude.{◌≡◌};
 
-use crate::machine::{CODE, DATA, NOTICE, STEP, asked, begun, byte_at, expect};
+use crate::machine::{CODE, DATA, NOTICE, STEP, asked, begun, byte_at, expect, only};
 use clock_ring::ClockRing;
 use flat_machine::KillCause;
 use machine_core::{Core, Event, EventRefusal, Reply};
@@ -11,7 +11,6 @@ use std::alloc::Global;
 use std::marker::Brand;
 use std::process::Abort;
 use std::sync::ledger::{Blank, Ledger};
-use std::test::Fail;
 use swap_slots::{FuseSlot, MemorySlot, SwapSlot};
 use test_slots::BlinkSlot;
 
@@ -42,7 +41,7 @@ fn shown_after<S: SwapSlot>(
     alloc: Global,
     slots: Vec<S>,
     events: &[(Event, Reply)],
-) -> Result<Shown, Fail> {
+) -> Shown {
     shown_in::<Brand, S>(rt, alloc, slots, Blank::new(5), events)
 }
 
@@ -52,24 +51,32 @@ fn shown_in<L: Ledger, S: SwapSlot>(
     slots: Vec<S>,
     blank: Blank,
     events: &[(Event, Reply)],
-) -> Result<Shown, Fail>
+) -> Shown
     requires name { blank.name ≡ L.name }
     requires parts { blank.parts ≡ L.parts }
     requires one_each { L.parts ≡ 5 }
 {
-    let mut core: Core<L, S, ClockRing> = begun(rt, alloc, STORES_BYTES, slots, blank)?;
-    expect(rt, &mut core, events);
-    Ok(Shown {
+    let mut core: Core<L, S, ClockRing> = begun(rt, alloc, STORES_BYTES, slots, blank);
+    shown_by(rt, &mut core, events)
+}
+
+fn shown_by<L: Ledger, S: SwapSlot>(
+    rt: &impl Abort,
+    core: &mut Core<L, S, ClockRing>,
+    events: &[(Event, Reply)],
+) -> Shown {
+    expect(rt, core, events);
+    Shown {
         state: core.state(0, DATA.vpn),
-        first_byte: byte_at(&mut core, 0x1_1000),
-    })
+        first_byte: byte_at(core, 0x1_1000),
+    }
 }
 
 /// A clean page needs no save when it leaves, and comes back as it was.
 #[test]
-fn a_clean_page_leaves_with_no_save(rt: HostRuntime) -> Result<(), Fail> {
+fn a_clean_page_leaves_with_no_save(rt: HostRuntime) {
     let alloc = rt.alloc();
-    let slots = vec![in alloc; MemorySlot::new(alloc)?]?;
+    let slots = only(&rt, alloc, MemorySlot::new(alloc));
     let events = [
         (Event::Clean(DATA), Reply::Cleaning),
         (Event::Copy(DATA), Reply::NotYet),
@@ -96,14 +103,13 @@ fn a_clean_page_leaves_with_no_save(rt: HostRuntime) -> Result<(), Fail> {
         ),
         (Event::PageIn(DATA), Reply::Mapped),
     ];
-    let shown = shown_after(&rt, alloc, slots, &events)?;
+    let shown = shown_after(&rt, alloc, slots, &events);
     assert!(rt; shown.first_byte == Some(5));
-    Ok(())
 }
 
 /// With no slot a cleaning ends with no copy, and can begin anew.
 #[test]
-fn a_page_is_not_copied_with_no_slot(rt: HostRuntime) -> Result<(), Fail> {
+fn a_page_is_not_copied_with_no_slot(rt: HostRuntime) {
     let alloc = rt.alloc();
     let events = [
         (Event::Clean(DATA), Reply::Cleaning),
@@ -116,17 +122,16 @@ fn a_page_is_not_copied_with_no_slot(rt: HostRuntime) -> Result<(), Fail> {
         ),
         (Event::Clean(DATA), Reply::Cleaning),
     ];
-    let shown = shown_after::<MemorySlot>(&rt, alloc, Vec::new(alloc), &events)?;
+    let shown = shown_after::<MemorySlot>(&rt, alloc, Vec::new(alloc), &events);
     assert!(rt; shown.state == Some(PageState::Resident));
     assert!(rt; shown.first_byte == Some(5));
-    Ok(())
 }
 
 /// Stores go on while a page is cleaned: one by what a cache still holds, and one after the copy, which then is of no use.
 #[test]
-fn a_page_is_stored_to_while_it_is_cleaned(rt: HostRuntime) -> Result<(), Fail> {
+fn a_page_is_stored_to_while_it_is_cleaned(rt: HostRuntime) {
     let alloc = rt.alloc();
-    let slots = vec![in alloc; MemorySlot::new(alloc)?]?;
+    let slots = only(&rt, alloc, MemorySlot::new(alloc));
     let events = [
         (Event::Clean(DATA), Reply::Cleaning),
         (
@@ -149,15 +154,14 @@ fn a_page_is_stored_to_while_it_is_cleaned(rt: HostRuntime) -> Result<(), Fail> 
         (Event::Copy(DATA), Reply::Stored),
         (Event::Clean(DATA), Reply::Cleaning),
     ];
-    shown_after(&rt, alloc, slots, &events)?;
-    Ok(())
+    shown_after(&rt, alloc, slots, &events);
 }
 
 /// The page stays as it is where its copy is not written.
 #[test]
-fn a_page_whose_copy_fails_stays_changed(rt: HostRuntime) -> Result<(), Fail> {
+fn a_page_whose_copy_fails_stays_changed(rt: HostRuntime) {
     let alloc = rt.alloc();
-    let slots = vec![in alloc; FuseSlot::new(alloc, 0)?]?;
+    let slots = only(&rt, alloc, FuseSlot::new(alloc, 0));
     let events = [
         (Event::Clean(DATA), Reply::Cleaning),
         (NOTICE, Reply::Noticed),
@@ -170,17 +174,16 @@ fn a_page_whose_copy_fails_stays_changed(rt: HostRuntime) -> Result<(), Fail> {
         ),
         (Event::Clean(DATA), Reply::Cleaning),
     ];
-    let shown = shown_after(&rt, alloc, slots, &events)?;
+    let shown = shown_after(&rt, alloc, slots, &events);
     assert!(rt; shown.state == Some(PageState::Resident));
     assert!(rt; shown.first_byte == Some(5));
-    Ok(())
 }
 
 /// It is cleaned at the second try, and its process is not given back while a copy is out.
 #[test]
-fn a_page_is_cleaned_at_the_second_try(rt: HostRuntime) -> Result<(), Fail> {
+fn a_page_is_cleaned_at_the_second_try(rt: HostRuntime) {
     let alloc = rt.alloc();
-    let slots = vec![in alloc; BlinkSlot::new(alloc, 1)?]?;
+    let slots = only(&rt, alloc, BlinkSlot::new(alloc, 1));
     let kill = Event::Kill {
         process: 0,
         cause: KillCause::Limit,
@@ -200,6 +203,5 @@ fn a_page_is_cleaned_at_the_second_try(rt: HostRuntime) -> Result<(), Fail> {
         (Event::Cleaned(DATA), Reply::Cleaned),
         (purge, Reply::Purged),
     ];
-    shown_after(&rt, alloc, slots, &events)?;
-    Ok(())
+    shown_after(&rt, alloc, slots, &events);
 }

@@ -4,7 +4,6 @@ use clock_policy::Key;
 use event_scripts::{ReplyLine, event_on_line, read_drive_script};
 use flat_machine::KillCause;
 use machine_core::{Event, EventRefusal, Reply};
-use std::test::Fail;
 use text_lines::BadLine;
 
 /// Page 16 of process 0.
@@ -58,24 +57,22 @@ fn lines_are_events(rt: HostRuntime) {
 }
 
 #[test]
-fn a_bad_line_ends_the_script(rt: HostRuntime) -> Result<(), Fail> {
+fn a_bad_line_ends_the_script(rt: HostRuntime) {
     let text = "sweep\n\n# one\npurge 1\nsweep 1\nsweep";
-    let script = read_drive_script(rt.alloc(), text.as_bytes())?;
-    assert!(rt; script.events.as_slice() == [Event::Sweep, Event::Purge { process: 1 }].as_slice());
-    assert!(rt; script.bad_line == Some(5));
-    Ok(())
+    let script = read_drive_script(rt.alloc(), text.as_bytes()).expect(&rt, "no script");
+    let before = [Event::Sweep, Event::Purge { process: 1 }];
+    let events = script.events.as_slice();
+    assert!(rt; events == before.as_slice() && script.bad_line == Some(5));
 }
 
 #[test]
-fn a_script_ends_with_its_last_line(rt: HostRuntime) -> Result<(), Fail> {
-    let script = read_drive_script(rt.alloc(), b"sweep\n".as_slice())?;
-    assert!(rt; script.events.len() == 1);
-    assert!(rt; script.bad_line == None);
-    Ok(())
+fn a_script_ends_with_its_last_line(rt: HostRuntime) {
+    let script = read_drive_script(rt.alloc(), b"sweep\n".as_slice()).expect(&rt, "no script");
+    assert!(rt; script.events.len() == 1 && script.bad_line == None);
 }
 
 #[test]
-fn replies_to_cleaning_are_lines(rt: HostRuntime) -> Result<(), Fail> {
+fn replies_to_cleaning_are_lines(rt: HostRuntime) {
     for (reply, line) in [
         (Reply::Cleaning, "cleaning"),
         (Reply::Stored, "stored"),
@@ -87,8 +84,7 @@ fn replies_to_cleaning_are_lines(rt: HostRuntime) -> Result<(), Fail> {
         (Reply::Refused(EventRefusal::NotCleaning), "refused 16"),
         (Reply::Refused(EventRefusal::NotCopied), "refused 17"),
     ] {
-        let told = format!(in rt.alloc(); "{}", ReplyLine(reply))?;
+        let told = format!(in rt.alloc(); "{}", ReplyLine(reply)).expect(&rt, "no memory");
         assert!(rt; told.as_str() == line);
     }
-    Ok(())
 }

@@ -2,16 +2,15 @@
 
 ghost use Rattle.std.specs.Prelude.{◌≡◌};
 
-use crate::machine::{CODE, DATA, NOTICE, STEP, asked, begun, byte_at, expect};
+use crate::machine::{CODE, DATA, NOTICE, STEP, asked, begun, byte_at, expect, only};
 use clock_policy::EntryKind;
 use clock_ring::ClockRing;
 use machine_core::{Core, Event, EventRefusal, Reply};
 use page_store::PageState;
-use std::alloc::Global;
+use std::alloc::{AllocError, Global};
 use std::marker::Brand;
 use std::process::Abort;
 use std::sync::ledger::{Blank, Ledger};
-use std::test::Fail;
 use swap_slots::{FuseSlot, SwapSlot};
 use test_guests::STORES_A_BYTE;
 use test_slots::{BlinkSlot, FlipSlot};
@@ -21,16 +20,15 @@ use test_slots::{BlinkSlot, FlipSlot};
 fn swept<L: Ledger, S: SwapSlot>(
     rt: &impl Abort,
     alloc: Global,
-    slot: S,
+    slot: Result<S, AllocError>,
     blank: Blank,
-) -> Result<Core<L, S, ClockRing>, Fail>
+) -> Core<L, S, ClockRing>
     requires name { blank.name ≡ L.name }
     requires parts { blank.parts ≡ L.parts }
     requires one_each { L.parts ≡ 5 }
 {
-    let mut slots = Vec::new(alloc);
-    slots.push(slot)?;
-    let mut core: Core<L, S, ClockRing> = begun(rt, alloc, STORES_A_BYTE, slots, blank)?;
+    let slots = only(rt, alloc, slot);
+    let mut core: Core<L, S, ClockRing> = begun(rt, alloc, STORES_A_BYTE, slots, blank);
     let events = [
         (Event::Sweep, asked(CODE, true)),
         (Event::Sweep, asked(DATA, true)),
@@ -43,7 +41,7 @@ fn swept<L: Ledger, S: SwapSlot>(
         (Event::Collect(DATA), Reply::Dirty),
     ];
     expect(rt, &mut core, &events);
-    Ok(core)
+    core
 }
 
 /// How the page of data is listed, if it is.
@@ -76,85 +74,93 @@ fn runs_on<L: Ledger, S: SwapSlot>(rt: &impl Abort, core: &mut Core<L, S, ClockR
     assert!(rt; stored(core) == Some(5));
 }
 
-fn stays_where_its_save_fails<L: Ledger>(
-    rt: &impl Abort,
-    alloc: Global,
-    blank: Blank,
-) -> Result<(), Fail>
+/// The page stays in its frame and in the list.
+fn stays<L: Ledger>(rt: &impl Abort, core: &mut Core<L, FuseSlot, ClockRing>) {
+    assert!(rt; core.apply(Event::Saved(DATA)) == Reply::Device);
+    assert!(rt; core.state(0, DATA.vpn) == Some(PageState::Resident));
+    assert!(rt; kind_of_data(core) == Some(EntryKind::Test));
+    assert!(rt; stored(core) == Some(5));
+    let answered = core.apply(Event::Sweep) != Reply::Refused(EventRefusal::NothingResident);
+    assert!(rt; answered);
+}
+
+fn stays_where_its_save_fails<L: Ledger>(rt: &impl Abort, alloc: Global, blank: Blank)
     requires name { blank.name ≡ L.name }
     requires parts { blank.parts ≡ L.parts }
     requires one_each { L.parts ≡ 5 }
 {
-    let slot = FuseSlot::new(alloc, 0)?;
-    let mut core: Core<L, FuseSlot, ClockRing> = swept(rt, alloc, slot, blank)?;
-    assert!(rt; core.apply(Event::Saved(DATA)) == Reply::Device);
-    assert!(rt; core.state(0, DATA.vpn) == Some(PageState::Resident));
-    assert!(rt; kind_of_data(&core) == Some(EntryKind::Test));
-    assert!(rt; stored(&mut core) == Some(5));
-    let answered = core.apply(Event::Sweep) != Reply::Refused(EventRefusal::NothingResident);
-    assert!(rt; answered);
-    Ok(())
+    let mut core: Core<L, FuseSlot, ClockRing> = swept(rt, alloc, FuseSlot::new(alloc, 0), blank);
+    stays(rt, &mut core);
 }
 
 /// The page is swept out again, and its slot takes it.
-fn is_saved_again<L: Ledger>(rt: &impl Abort, alloc: Global, blank: Blank) -> Result<(), Fail>
-    requires name { blank.name ≡ L.name }
-    requires parts { blank.parts ≡ L.parts }
-    requires one_each { L.parts ≡ 5 }
-{
-    let slot = BlinkSlot::new(alloc, 1)?;
-    let mut core: Core<L, BlinkSlot, ClockRing> = swept(rt, alloc, slot, blank)?;
+fn goes_at_last<L: Ledger>(rt: &impl Abort, core: &mut Core<L, BlinkSlot, ClockRing>) {
     let events = [
         (Event::Saved(DATA), Reply::Device),
         (Event::Sweep, Reply::Victim(DATA)),
         (Event::Collect(DATA), Reply::Dirty),
         (Event::Saved(DATA), Reply::Freed),
     ];
-    expect(rt, &mut core, &events);
+    expect(rt, core, &events);
     assert!(rt; core.state(0, DATA.vpn) == Some(PageState::Away));
-    runs_on(rt, &mut core);
-    Ok(())
+    runs_on(rt, core);
 }
 
-/// The page is in no list once it was not loaded, and comes in at the next try.
-fn is_loaded_again<L: Ledger, S: SwapSlot>(
-    rt: &impl Abort,
-    alloc: Global,
-    slot: S,
-    reply: Reply,
-    blank: Blank,
-) -> Result<(), Fail>
+fn is_saved_again<L: Ledger>(rt: &impl Abort, alloc: Global, blank: Blank)
     requires name { blank.name ≡ L.name }
     requires parts { blank.parts ≡ L.parts }
     requires one_each { L.parts ≡ 5 }
 {
-    let mut core: Core<L, S, ClockRing> = swept(rt, alloc, slot, blank)?;
+    let mut core: Core<L, BlinkSlot, ClockRing> = swept(rt, alloc, BlinkSlot::new(alloc, 1), blank);
+    goes_at_last(rt, &mut core);
+}
+
+/// The page is in no list once it was not loaded, and comes in at the next try.
+fn comes_at_last<L: Ledger, S: SwapSlot>(
+    rt: &impl Abort,
+    core: &mut Core<L, S, ClockRing>,
+    reply: Reply,
+) {
     assert!(rt; core.apply(Event::Saved(DATA)) == Reply::Freed);
     assert!(rt; core.apply(Event::PageIn(DATA)) == reply);
     assert!(rt; core.state(0, DATA.vpn) == Some(PageState::Away));
-    assert!(rt; kind_of_data(&core) == None);
-    runs_on(rt, &mut core);
-    Ok(())
+    assert!(rt; kind_of_data(core) == None);
+    runs_on(rt, core);
+}
+
+fn is_loaded_again<L: Ledger, S: SwapSlot>(
+    rt: &impl Abort,
+    alloc: Global,
+    slot: Result<S, AllocError>,
+    reply: Reply,
+    blank: Blank,
+)
+    requires name { blank.name ≡ L.name }
+    requires parts { blank.parts ≡ L.parts }
+    requires one_each { L.parts ≡ 5 }
+{
+    let mut core: Core<L, S, ClockRing> = swept(rt, alloc, slot, blank);
+    comes_at_last(rt, &mut core, reply);
 }
 
 #[test]
-fn a_page_whose_save_fails_stays_listed(rt: HostRuntime) -> Result<(), Fail> {
-    stays_where_its_save_fails::<Brand>(&rt, rt.alloc(), Blank::new(5))
+fn a_page_whose_save_fails_stays_listed(rt: HostRuntime) {
+    stays_where_its_save_fails::<Brand>(&rt, rt.alloc(), Blank::new(5));
 }
 
 #[test]
-fn a_page_is_saved_at_the_second_try(rt: HostRuntime) -> Result<(), Fail> {
-    is_saved_again::<Brand>(&rt, rt.alloc(), Blank::new(5))
+fn a_page_is_saved_at_the_second_try(rt: HostRuntime) {
+    is_saved_again::<Brand>(&rt, rt.alloc(), Blank::new(5));
 }
 
 #[test]
-fn a_page_that_is_not_loaded_is_not_listed(rt: HostRuntime) -> Result<(), Fail> {
-    let slot = BlinkSlot::new(rt.alloc(), 2)?;
-    is_loaded_again::<Brand, BlinkSlot>(&rt, rt.alloc(), slot, Reply::Device, Blank::new(5))
+fn a_page_that_is_not_loaded_is_not_listed(rt: HostRuntime) {
+    let slot = BlinkSlot::new(rt.alloc(), 2);
+    is_loaded_again::<Brand, BlinkSlot>(&rt, rt.alloc(), slot, Reply::Device, Blank::new(5));
 }
 
 #[test]
-fn a_damaged_page_is_not_listed(rt: HostRuntime) -> Result<(), Fail> {
-    let slot = FlipSlot::new(rt.alloc(), 1)?;
-    is_loaded_again::<Brand, FlipSlot>(&rt, rt.alloc(), slot, Reply::Damaged, Blank::new(5))
+fn a_damaged_page_is_not_listed(rt: HostRuntime) {
+    let slot = FlipSlot::new(rt.alloc(), 1);
+    is_loaded_again::<Brand, FlipSlot>(&rt, rt.alloc(), slot, Reply::Damaged, Blank::new(5));
 }

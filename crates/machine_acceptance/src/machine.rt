@@ -7,10 +7,9 @@ use clock_ring::ClockRing;
 use elf_image::Image;
 use machine_core::{Core, Event, Reply};
 use rv_asm::assemble;
-use std::alloc::Global;
+use std::alloc::{AllocError, Global};
 use std::process::Abort;
 use std::sync::ledger::{Blank, Ledger};
-use std::test::Fail;
 use swap_slots::SwapSlot;
 
 pub(crate) const STEP: Event = Event::Step {
@@ -39,9 +38,40 @@ pub(crate) fn asked(key: Key, used: bool) -> Reply {
 }
 
 /// The image of a source.
-pub(crate) fn image_of(alloc: Global, source: &str) -> Result<Image, Fail> {
-    let listing = assemble(alloc, source).map_err(|_| "the source has a fault")?;
-    Ok(listing.into_image())
+pub(crate) fn image_of(rt: &impl Abort, alloc: Global, source: &str) -> Image {
+    assemble(alloc, source)
+        .expect(rt, "the source has a fault")
+        .into_image()
+}
+
+/// So many processes of a source, with nothing to read.
+pub(crate) fn processes_of(
+    rt: &impl Abort,
+    alloc: Global,
+    source: &str,
+    count: u32,
+) -> Vec<(Image, Vec<u8>)> {
+    let mut starts = Vec::new(alloc);
+    for _ in 0..count {
+        let image = image_of(rt, alloc, source);
+        starts
+            .push((image, Vec::new(alloc)))
+            .expect(rt, "no processes");
+    }
+    starts
+}
+
+/// A slot that was made, as a machine's only one.
+pub(crate) fn only<S: SwapSlot>(
+    rt: &impl Abort,
+    alloc: Global,
+    slot: Result<S, AllocError>,
+) -> Vec<S> {
+    let mut slots = Vec::new(alloc);
+    slots
+        .push(slot.expect(rt, "no slot"))
+        .expect(rt, "no slots");
+    slots
 }
 
 /// A machine of four frames, with these slots, whose process has run the first four instructions
@@ -52,16 +82,16 @@ pub(crate) fn begun<L: Ledger, S: SwapSlot>(
     source: &str,
     slots: Vec<S>,
     blank: Blank,
-) -> Result<Core<L, S, ClockRing>, Fail>
+) -> Core<L, S, ClockRing>
     requires name { blank.name ≡ L.name }
     requires parts { blank.parts ≡ L.parts }
     requires one_each { L.parts ≡ 5 }
 {
-    let mut starts = Vec::new(alloc);
-    starts.push((image_of(alloc, source)?, Vec::new(alloc)))?;
-    let mut core: Core<L, S, ClockRing> = Core::new(alloc, 4, blank, slots, starts).map_err(
-        |_| "no machine",
-    )?;
+    let starts = processes_of(rt, alloc, source, 1);
+    let mut core: Core<L, S, ClockRing> = Core::new(alloc, 4, blank, slots, starts).expect(
+        rt,
+        "no machine",
+    );
     let events = [
         (Event::PageIn(CODE), Reply::Mapped),
         (Event::PageIn(DATA), Reply::Mapped),
@@ -71,7 +101,7 @@ pub(crate) fn begun<L: Ledger, S: SwapSlot>(
         (STEP, Reply::Ran),
     ];
     expect(rt, &mut core, &events);
-    Ok(core)
+    core
 }
 
 /// Sends events one after another, and looks at each reply.

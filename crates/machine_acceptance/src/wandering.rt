@@ -2,7 +2,7 @@
 
 ghost use Rattle.std.specs.Prelude.{◌≡◌, ◌<◌, ◌^◌};
 
-use crate::machine::image_of;
+use crate::machine::{image_of, processes_of};
 use clock_policy::Key;
 use clock_ring::ClockRing;
 use flat_machine::{FlatProcess, KillCause};
@@ -11,7 +11,6 @@ use std::alloc::Global;
 use std::marker::Brand;
 use std::process::Abort;
 use std::sync::ledger::{Blank, Ledger};
-use std::test::Fail;
 use swap_slots::MemorySlot;
 use test_guests::{Random, WANDERS};
 
@@ -47,6 +46,26 @@ struct Told {
 }
 
 impl Told {
+    /// Before any reply.
+    fn nothing() -> Told {
+        let nowhere = Key { process: 0, vpn: 0 };
+        Told {
+            absent: nowhere,
+            victim: nowhere,
+            dirty: nowhere,
+            mapped: nowhere,
+            cleaning: nowhere,
+            copied: nowhere,
+            goes_on: None,
+            ran: 0,
+            freed: 0,
+            saved: 0,
+            cleaned: 0,
+            stored: 0,
+            refused: 0,
+        }
+    }
+
     /// An event that is chosen at random, most of them ones that get on.
     fn next(&self, random: &mut Random) -> Event {
         if let Some(step) = self.goes_on {
@@ -156,30 +175,50 @@ impl Told {
     }
 }
 
-/// Whether a process shows what the flat run of its schedule leaves.
+/// Whether a process has the registers of a flat one, its output and its end.
+fn ends_as<L: Ledger>(
+    core: &Core<L, MemorySlot, ClockRing>,
+    process: u32,
+    flat: &FlatProcess,
+) -> bool {
+    for hart in 0..2 {
+        if core.regs(process, hart) != flat.regs(hart) {
+            return false;
+        }
+    }
+    core.output(process) == Some(flat.output()) && core.end(process) == Some(flat.end())
+}
+
+/// Whether a process shows what the run of its schedule leaves, on a flat one at its beginning.
+fn stands_for<L: Ledger>(
+    core: &mut Core<L, MemorySlot, ClockRing>,
+    process: u32,
+    flat: &mut FlatProcess,
+) -> bool {
+    let Some(schedule) = core.schedule(process) else {
+        return false;
+    };
+    if flat.run(schedule).is_err() {
+        return false;
+    }
+    ends_as(core, process, flat)
+        && shows_its_pages(core, process, flat, 0, 0x20)
+        && shows_its_pages(core, process, flat, 0x7_FFB0, 0x8_0010)
+}
+
+fn begin_flat(rt: &impl Abort, alloc: Global) -> FlatProcess {
+    let image = image_of(rt, alloc, WANDERS);
+    FlatProcess::new(alloc, &image, Vec::new(alloc)).expect(rt, "no flat process")
+}
+
 fn stands_for_its_run<L: Ledger>(
+    rt: &impl Abort,
     alloc: Global,
     core: &mut Core<L, MemorySlot, ClockRing>,
     process: u32,
-) -> Result<bool, Fail> {
-    let mut flat = FlatProcess::new(alloc, &image_of(alloc, WANDERS)?, Vec::new(alloc))?;
-    let Some(schedule) = core.schedule(process) else {
-        return Ok(false);
-    };
-    if flat.run(schedule).is_err() {
-        return Ok(false);
-    }
-    for hart in 0..2 {
-        if core.regs(process, hart) != flat.regs(hart) {
-            return Ok(false);
-        }
-    }
-    if core.output(process) != Some(flat.output()) || core.end(process) != Some(flat.end()) {
-        return Ok(false);
-    }
-    let same = shows_its_pages(core, process, &flat, 0, 0x20)
-        && shows_its_pages(core, process, &flat, 0x7_FFB0, 0x8_0010);
-    Ok(same)
+) -> bool {
+    let mut flat = begin_flat(rt, alloc);
+    stands_for(core, process, &mut flat)
 }
 
 /// Whether a process shows what the flat process has in each of these pages: no byte where none is mapped.
@@ -220,68 +259,66 @@ fn shows_its_page<L: Ledger>(
     true
 }
 
-fn wanders_from<L: Ledger>(
-    rt: &impl Abort,
-    alloc: Global,
-    blank: Blank,
-    seed: u64,
-) -> Result<(), Fail>
-    requires name { blank.name ≡ L.name }
-    requires parts { blank.parts ≡ L.parts }
-    requires one_each { L.parts ≡ 5 }
-{
-    let mut starts = Vec::new(alloc);
-    for _ in 0..PROCESSES {
-        starts.push((image_of(alloc, WANDERS)?, Vec::new(alloc)))?;
-    }
+fn memory_slots(rt: &impl Abort, alloc: Global) -> Vec<MemorySlot> {
     let mut slots = Vec::new(alloc);
     for _ in 0..12 {
-        slots.push(MemorySlot::new(alloc)?)?;
+        let slot = MemorySlot::new(alloc).expect(rt, "no slot");
+        slots.push(slot).expect(rt, "no slots");
     }
-    let mut core: Core<L, MemorySlot, ClockRing> = Core::new(
-        alloc, 4, blank, slots, starts,
-    ).map_err(|_| "no machine")?;
-    let nowhere = Key { process: 0, vpn: 0 };
-    let mut told = Told {
-        absent: nowhere,
-        victim: nowhere,
-        dirty: nowhere,
-        mapped: nowhere,
-        cleaning: nowhere,
-        copied: nowhere,
-        goes_on: None,
-        ran: 0,
-        freed: 0,
-        saved: 0,
-        cleaned: 0,
-        stored: 0,
-        refused: 0,
-    };
+    slots
+}
+
+/// Many events of every kind have come.
+fn told_enough(rt: &impl Abort, told: &Told) {
+    assert!(rt; told.ran > 500, "too few steps");
+    assert!(rt; told.freed > 10, "too few drops");
+    assert!(rt; told.saved > 10, "too few saves");
+    assert!(rt; told.cleaned > 10, "too few pages cleaned");
+    assert!(rt; told.stored > 0, "no cleaning that a store ended");
+    assert!(rt; told.refused > 1000, "too few refusals");
+}
+
+/// Sends the events of a seed.
+fn wander<L: Ledger>(rt: &impl Abort, core: &mut Core<L, MemorySlot, ClockRing>, seed: u64) {
+    let mut told = Told::nothing();
     let mut random = Random::new(seed);
     for _ in 0..EVENTS {
         let event = told.next(&mut random);
         let reply = core.apply(event);
         told.heed(event, reply);
     }
-    assert!(rt; told.ran > 500, "{} steps", told.ran);
-    assert!(rt; told.freed > 10, "{} drops", told.freed);
-    assert!(rt; told.saved > 10, "{} saves", told.saved);
-    assert!(rt; told.cleaned > 10, "{} pages cleaned", told.cleaned);
-    assert!(rt;
-        told.stored > 0,
-        "{} cleanings that a store ended",
-        told.stored
-    );
-    assert!(rt; told.refused > 1000, "{} refusals", told.refused);
+    told_enough(rt, &told);
+}
+
+fn wanders<L: Ledger>(
+    rt: &impl Abort,
+    alloc: Global,
+    core: &mut Core<L, MemorySlot, ClockRing>,
+    seed: u64,
+) {
+    wander(rt, core, seed);
     for process in 0..PROCESSES {
-        let stands = stands_for_its_run(alloc, &mut core, process)?;
+        let stands = stands_for_its_run(rt, alloc, core, process);
         assert!(rt; stands, "process {process} of seed {seed}");
     }
-    Ok(())
+}
+
+fn wanders_from<L: Ledger>(rt: &impl Abort, alloc: Global, blank: Blank, seed: u64)
+    requires name { blank.name ≡ L.name }
+    requires parts { blank.parts ≡ L.parts }
+    requires one_each { L.parts ≡ 5 }
+{
+    let starts = processes_of(rt, alloc, WANDERS, PROCESSES);
+    let slots = memory_slots(rt, alloc);
+    let mut core: Core<L, MemorySlot, ClockRing> = Core::new(alloc, 4, blank, slots, starts).expect(
+        rt,
+        "no machine",
+    );
+    wanders(rt, alloc, &mut core, seed);
 }
 
 #[test]
-fn processes_on_four_frames_do_what_they_do_flat(rt: HostRuntime) -> Result<(), Fail> {
-    wanders_from::<Brand>(&rt, rt.alloc(), Blank::new(5), 1)?;
-    wanders_from::<Brand>(&rt, rt.alloc(), Blank::new(5), 20_261_123)
+fn processes_on_four_frames_do_what_they_do_flat(rt: HostRuntime) {
+    wanders_from::<Brand>(&rt, rt.alloc(), Blank::new(5), 1);
+    wanders_from::<Brand>(&rt, rt.alloc(), Blank::new(5), 20_261_123);
 }

@@ -91,23 +91,31 @@ impl<'a, L: Ledger, S: SwapSlot, O: Opening> Bus for HartMemory<'a, L, S, O> {
         (new.memory.ghost_name ≡ old.memory.ghost_name) ×
         KeepsTold old.hart O.opening old.memory.now new.memory.now };
 
-    ghost keeps_itself = { λ bus. (refl, refl, record {
-      since = λ start kept. kept;
-      lacked = λ page lacks. lacks;
-      had = λ page has. has;
-      used = λ page used. used;
-      takes = λ page taken. taken;
-    }) };
+    ghost keeps_itself = { λ bus. (
+      refl,
+      refl,
+      record {
+        since = λ start kept. kept;
+        lacked = λ page lacks. lacks;
+        had = λ page has. has;
+        used = λ page used. used;
+        takes = λ page taken. taken;
+      },
+    ) };
 
     ghost keeps_on = { λ before between after first second.
         let later = subst (λ h. KeepsTold h O.opening between.memory.now after.memory.now)
-        first.0 second.2 in (second.0 ∙ first.0, second.1 ∙ first.1, record {
-      since = λ start kept. later.since start (first.2.since start kept);
-      lacked = λ page lacks. first.2.lacked page (later.lacked page lacks);
-      had = λ page has. first.2.had page (later.had page has);
-      used = λ page used. later.used page (first.2.used page used);
-      takes = λ page taken. later.takes page (first.2.takes page taken);
-    }) };
+        first.0 second.2 in (
+          second.0 ∙ first.0,
+          second.1 ∙ first.1,
+          record {
+            since = λ start kept. later.since start (first.2.since start kept);
+            lacked = λ page lacks. first.2.lacked page (later.lacked page lacks);
+            had = λ page has. first.2.had page (later.had page has);
+            used = λ page used. later.used page (first.2.used page used);
+            takes = λ page taken. later.takes page (first.2.takes page taken);
+          },
+        ) };
 
     ghost lacked_before = { λ before after page kept. kept.2.lacked page };
 

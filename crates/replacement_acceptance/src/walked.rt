@@ -3,7 +3,7 @@
 use clock_policy::{Bit, Entry, EntryKind, Key, Kind, Refusal, Verdict};
 use std::alloc::{AllocError, Global};
 
-#[derive(Debug, Drop)]
+#[derive(Drop)]
 pub(crate) struct Walked {
     frames: usize,
     pub(crate) share: usize,

@@ -74,10 +74,19 @@ pub(crate) fn keeps_a_page<L: Ledger>(alloc: Global, blank: Blank) -> Result<boo
     let mut spare = Some(MemorySlot::new(alloc)?);
     let mut room = Box::new(alloc, [0; 4096])?;
     let (mut space, mut frames) = begun::<L>(alloc, STORES_A_BYTE, blank)?;
-    if !stores(&mut space, &mut frames)? || !goes_out(&mut space, &mut spare, &mut room) {
+    goes_and_comes(&mut space, &mut frames, &mut spare, &mut room)
+}
+
+fn goes_and_comes<L: Ledger>(
+    space: &mut Space<L, MemorySlot>,
+    frames: &mut FramePool<L>,
+    spare: &mut Option<MemorySlot>,
+    room: &mut Box<[u8; 4096]>,
+) -> Result<bool, AllocError> {
+    if !stores(space, frames)? {
         return Ok(false);
     }
-    Ok(comes_back(&mut space))
+    Ok(goes_out(space, spare, room) && comes_back(space))
 }
 
 /// A process of a source, and four frames.

@@ -10,15 +10,14 @@ use paged_memory::{PageInFault, PeekFault};
 use rv_asm::assemble;
 use rv_exec::Regs;
 use space_core::{Slice, Space};
-use std::alloc::Global;
+use std::alloc::{AllocError, Global};
 use std::marker::Brand;
 use std::process::Abort;
 use std::sync::ledger::{Blank, Ledger};
-use std::test::Fail;
 use swap_slots::SwapSlot;
 
 /// A call of the process.
-#[derive(Clone, Copy, PartialEq, Eq, Debug)]
+#[derive(Clone, Copy)]
 pub(crate) enum Call {
     State(u32),
     Slice { hart: u32, budget: u32 },
@@ -47,7 +46,7 @@ pub(crate) enum Call {
 }
 
 /// What it answers.
-#[derive(Clone, Copy, PartialEq, Eq, Debug)]
+#[derive(Clone, Copy, PartialEq, Eq)]
 pub(crate) enum Answer {
     Done,
     Refused,
@@ -87,19 +86,19 @@ pub(crate) struct Bench<L: Ledger, S: SwapSlot> {
 
 impl<L: Ledger, S: SwapSlot> Bench<L, S> {
     /// The process of an image, with four frames and these slots.
-    pub fn begin(alloc: Global, image: Image, spares: Vec<S>, blank: Blank) -> Result<Self, Fail>
+    pub fn begin(rt: &impl Abort, alloc: Global, image: Image, spares: Vec<S>, blank: Blank) -> Self
         requires name { blank.name ≡ L.name }
         requires parts { blank.parts ≡ L.parts }
         requires one_each { L.parts ≡ 5 }
     {
-        Ok(Bench {
-            space: Space::new(alloc, 0, image, Vec::new(alloc))?,
-            frames: FramePool::new(alloc, 4, blank)?,
+        Bench {
+            space: Space::new(alloc, 0, image, Vec::new(alloc)).expect(rt, "no process"),
+            frames: FramePool::new(alloc, 4, blank).expect(rt, "no frames"),
             spares,
             jobs: Vec::new(alloc),
             copies: Vec::new(alloc),
-            room: Box::new(alloc, [0; 4096])?,
-        })
+            room: Box::new(alloc, [0; 4096]).expect(rt, "no room"),
+        }
     }
 
     /// Makes a call.
@@ -319,16 +318,16 @@ pub(crate) fn expect<L: Ledger, S: SwapSlot>(
     }
 }
 
-/// A process that runs a source, with these slots, answers to lists of calls as they tell.
+/// Makes lists of calls of a process that runs a source, with these slots, and looks at each answer.
 pub(crate) fn answers<S: SwapSlot>(
     rt: &impl Abort,
     alloc: Global,
     source: &str,
     slots: Vec<S>,
     lists: &[&[(Call, Answer)]],
-) -> Result<(), Fail> {
-    let image = image_of(alloc, source)?;
-    answers_in::<Brand, S>(rt, alloc, image, slots, Blank::new(5), lists)
+) {
+    let image = image_of(rt, alloc, source);
+    answers_in::<Brand, S>(rt, alloc, image, slots, Blank::new(5), lists);
 }
 
 fn answers_in<L: Ledger, S: SwapSlot>(
@@ -338,20 +337,33 @@ fn answers_in<L: Ledger, S: SwapSlot>(
     slots: Vec<S>,
     blank: Blank,
     lists: &[&[(Call, Answer)]],
-) -> Result<(), Fail>
+)
     requires name { blank.name ≡ L.name }
     requires parts { blank.parts ≡ L.parts }
     requires one_each { L.parts ≡ 5 }
 {
-    let mut bench: Bench<L, S> = Bench::begin(alloc, image, slots, blank)?;
+    let mut bench: Bench<L, S> = Bench::begin(rt, alloc, image, slots, blank);
     for list in lists {
         expect(rt, &mut bench, list);
     }
-    Ok(())
 }
 
 /// The image of a source.
-pub(crate) fn image_of(alloc: Global, source: &str) -> Result<Image, Fail> {
-    let listing = assemble(alloc, source).map_err(|_| "the source has a fault")?;
-    Ok(listing.into_image())
+pub(crate) fn image_of(rt: &impl Abort, alloc: Global, source: &str) -> Image {
+    assemble(alloc, source)
+        .expect(rt, "the source has a fault")
+        .into_image()
+}
+
+/// A slot that was made, as a process's only one.
+pub(crate) fn only<S: SwapSlot>(
+    rt: &impl Abort,
+    alloc: Global,
+    slot: Result<S, AllocError>,
+) -> Vec<S> {
+    let mut slots = Vec::new(alloc);
+    slots
+        .push(slot.expect(rt, "no slot"))
+        .expect(rt, "no slots");
+    slots
 }

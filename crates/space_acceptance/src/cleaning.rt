@@ -1,10 +1,9 @@
 //! A page is written to its slot while it stays mapped.
 
-use crate::bench::{Answer, Call, answers};
+use crate::bench::{Answer, Call, answers, only};
 use crate::paging::{ran, slice};
 use page_store::{CleanRefusal, PageState};
 use space_core::{Slice, SliceStop};
-use std::test::Fail;
 use swap_slots::{FuseSlot, MemorySlot};
 use test_guests::STORES_A_BYTE;
 
@@ -45,9 +44,9 @@ const COPIES: [(Call, Answer); 4] = [
 
 /// A page that was cleaned is dropped, with no save.
 #[test]
-fn a_page_that_was_cleaned_is_dropped(rt: HostRuntime) -> Result<(), Fail> {
+fn a_page_that_was_cleaned_is_dropped(rt: HostRuntime) {
     let alloc = rt.alloc();
-    let slots = vec![in alloc; MemorySlot::new(alloc)?]?;
+    let slots = only(&rt, alloc, MemorySlot::new(alloc));
     let calls = [
         (Call::NextChanged(0), Answer::Word(Some(0x11))),
         (Call::EndClean, Answer::Cleaned),
@@ -73,12 +72,12 @@ fn a_page_that_was_cleaned_is_dropped(rt: HostRuntime) -> Result<(), Fail> {
         STORES_A_BYTE,
         slots,
         &[&BEGINS, &COPIES, &calls],
-    )
+    );
 }
 
 /// With no slot the cleaning ends, and the page counts as changed, though its dirty bit is clear.
 #[test]
-fn a_page_is_not_cleaned_without_a_slot(rt: HostRuntime) -> Result<(), Fail> {
+fn a_page_is_not_cleaned_without_a_slot(rt: HostRuntime) {
     let alloc = rt.alloc();
     let calls = [
         (Call::CopyClean(0x11), Answer::NotYet),
@@ -102,14 +101,14 @@ fn a_page_is_not_cleaned_without_a_slot(rt: HostRuntime) -> Result<(), Fail> {
         STORES_A_BYTE,
         Vec::new(alloc),
         &[&BEGINS, &calls],
-    )
+    );
 }
 
 /// A store through a translation that is to be dropped holds the copy up, and one behind the copy spoils it.
 #[test]
-fn a_store_spoils_a_copy(rt: HostRuntime) -> Result<(), Fail> {
+fn a_store_spoils_a_copy(rt: HostRuntime) {
     let alloc = rt.alloc();
-    let slots = vec![in alloc; MemorySlot::new(alloc)?]?;
+    let slots = only(&rt, alloc, MemorySlot::new(alloc));
     let calls = [
         (slice(0, 1), ran(1, SliceStop::Budget)),
         (Call::CopyClean(0x11), Answer::NotYet),
@@ -125,9 +124,9 @@ fn a_store_spoils_a_copy(rt: HostRuntime) -> Result<(), Fail> {
 
 /// A page leaves while its copy is out: it is let go once the copy is back.
 #[test]
-fn a_page_leaves_once_its_copy_is_back(rt: HostRuntime) -> Result<(), Fail> {
+fn a_page_leaves_once_its_copy_is_back(rt: HostRuntime) {
     let alloc = rt.alloc();
-    let slots = vec![in alloc; MemorySlot::new(alloc)?]?;
+    let slots = only(&rt, alloc, MemorySlot::new(alloc));
     let calls = [
         (Call::BeginEvict(0x11), Answer::Done),
         (Call::Collect(0x11), Answer::NotYet),
@@ -142,14 +141,14 @@ fn a_page_leaves_once_its_copy_is_back(rt: HostRuntime) -> Result<(), Fail> {
         STORES_A_BYTE,
         slots,
         &[&BEGINS, &COPIES, &calls],
-    )
+    );
 }
 
 /// A device that fails leaves the page as it was, and changed; a failed save brings its dirty bit back as it was found, clear.
 #[test]
-fn a_device_fails_to_clean(rt: HostRuntime) -> Result<(), Fail> {
+fn a_device_fails_to_clean(rt: HostRuntime) {
     let alloc = rt.alloc();
-    let slots = vec![in alloc; FuseSlot::new(alloc, 0)?]?;
+    let slots = only(&rt, alloc, FuseSlot::new(alloc, 0));
     let calls = [
         (Call::EndClean, Answer::Device),
         (Call::Peek(0x1_1003), Answer::Byte(Ok(Some(5)))),
@@ -169,14 +168,14 @@ fn a_device_fails_to_clean(rt: HostRuntime) -> Result<(), Fail> {
         STORES_A_BYTE,
         slots,
         &[&BEGINS, &COPIES, &calls],
-    )
+    );
 }
 
 /// The process ends while a copy is out: its page gives back what it has once the copy is back.
 #[test]
-fn a_copy_comes_back_to_a_process_that_ended(rt: HostRuntime) -> Result<(), Fail> {
+fn a_copy_comes_back_to_a_process_that_ended(rt: HostRuntime) {
     let alloc = rt.alloc();
-    let slots = vec![in alloc; MemorySlot::new(alloc)?]?;
+    let slots = only(&rt, alloc, MemorySlot::new(alloc));
     let calls = [
         (slice(0, 10), ran(3, SliceStop::Ended)),
         (
@@ -203,5 +202,5 @@ fn a_copy_comes_back_to_a_process_that_ended(rt: HostRuntime) -> Result<(), Fail
         STORES_A_BYTE,
         slots,
         &[&BEGINS, &COPIES, &calls],
-    )
+    );
 }

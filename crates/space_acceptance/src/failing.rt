@@ -1,10 +1,9 @@
 //! A page whose slot fails once, or lies once.
 
-use crate::bench::{Answer, Call, answers};
+use crate::bench::{Answer, Call, answers, only};
 use page_store::PageState;
 use paged_memory::PageInFault;
 use space_core::{Slice, SliceStop};
-use std::test::Fail;
 use test_guests::STORES_A_BYTE;
 use test_slots::{BlinkSlot, FlipSlot};
 
@@ -45,9 +44,9 @@ const ENDS: [(Call, Answer); 3] = [
 
 /// The page is saved once its slot has failed to do so.
 #[test]
-fn a_page_is_saved_at_the_second_try(rt: HostRuntime) -> Result<(), Fail> {
+fn a_page_is_saved_at_the_second_try(rt: HostRuntime) {
     let alloc = rt.alloc();
-    let slots = vec![in alloc; BlinkSlot::new(alloc, 1)?]?;
+    let slots = only(&rt, alloc, BlinkSlot::new(alloc, 1));
     let calls = [
         (Call::Collect(0x11), Answer::Dirty),
         (Call::Save, Answer::Refused),
@@ -64,9 +63,9 @@ fn a_page_is_saved_at_the_second_try(rt: HostRuntime) -> Result<(), Fail> {
 
 /// It is loaded once its slot has failed to do so.
 #[test]
-fn a_page_is_loaded_at_the_second_try(rt: HostRuntime) -> Result<(), Fail> {
+fn a_page_is_loaded_at_the_second_try(rt: HostRuntime) {
     let alloc = rt.alloc();
-    let slots = vec![in alloc; BlinkSlot::new(alloc, 2)?]?;
+    let slots = only(&rt, alloc, BlinkSlot::new(alloc, 2));
     let calls = [
         (Call::Collect(0x11), Answer::Dirty),
         (Call::Save, Answer::Done),
@@ -78,9 +77,9 @@ fn a_page_is_loaded_at_the_second_try(rt: HostRuntime) -> Result<(), Fail> {
 
 /// It does not come in damaged, and comes in whole once its slot gives back what it was given.
 #[test]
-fn a_damaged_page_stays_out(rt: HostRuntime) -> Result<(), Fail> {
+fn a_damaged_page_stays_out(rt: HostRuntime) {
     let alloc = rt.alloc();
-    let slots = vec![in alloc; FlipSlot::new(alloc, 1)?]?;
+    let slots = only(&rt, alloc, FlipSlot::new(alloc, 1));
     let calls = [
         (Call::Collect(0x11), Answer::Dirty),
         (Call::Save, Answer::Done),
@@ -92,9 +91,9 @@ fn a_damaged_page_stays_out(rt: HostRuntime) -> Result<(), Fail> {
 
 /// A look takes what its slot gives.
 #[test]
-fn a_look_takes_what_the_slot_gives(rt: HostRuntime) -> Result<(), Fail> {
+fn a_look_takes_what_the_slot_gives(rt: HostRuntime) {
     let alloc = rt.alloc();
-    let slots = vec![in alloc; FlipSlot::new(alloc, 1)?]?;
+    let slots = only(&rt, alloc, FlipSlot::new(alloc, 1));
     let calls = [
         (Call::Collect(0x11), Answer::Dirty),
         (Call::Save, Answer::Done),

@@ -1,10 +1,9 @@
 //! A process whose pages are brought in, evicted, saved and brought back.
 
-use crate::bench::{Answer, Call, answers};
+use crate::bench::{Answer, Call, answers, only};
 use page_store::PageState;
 use paged_memory::PeekFault;
 use space_core::{Slice, SliceStop};
-use std::test::Fail;
 use swap_slots::{FuseSlot, MemorySlot};
 use test_guests::STORES_A_BYTE;
 
@@ -41,9 +40,9 @@ const GIVEN: Answer = Answer::Given {
 };
 
 #[test]
-fn a_process_runs_over_two_pages(rt: HostRuntime) -> Result<(), Fail> {
+fn a_process_runs_over_two_pages(rt: HostRuntime) {
     let alloc = rt.alloc();
-    let slots = vec![in alloc; MemorySlot::new(alloc)?]?;
+    let slots = only(&rt, alloc, MemorySlot::new(alloc));
     let calls = [
         (Call::State(0x10), Answer::State(Some(PageState::Fresh))),
         (Call::State(0x12), Answer::State(None)),
@@ -68,9 +67,9 @@ fn a_process_runs_over_two_pages(rt: HostRuntime) -> Result<(), Fail> {
 
 /// A page leaves while a hart's cache holds it: until its notices are taken, the hart stores by its cache.
 #[test]
-fn a_hart_stores_while_its_page_leaves(rt: HostRuntime) -> Result<(), Fail> {
+fn a_hart_stores_while_its_page_leaves(rt: HostRuntime) {
     let alloc = rt.alloc();
-    let slots = vec![in alloc; MemorySlot::new(alloc)?]?;
+    let slots = only(&rt, alloc, MemorySlot::new(alloc));
     let calls = [
         (Call::PageIn(0x10), Answer::Done),
         (Call::PageIn(0x11), Answer::Done),
@@ -111,9 +110,9 @@ buf:    .word 5
 
 /// A page is evicted and comes back between LR.W and SC.W, which stores all the same.
 #[test]
-fn a_reservation_outlasts_an_eviction(rt: HostRuntime) -> Result<(), Fail> {
+fn a_reservation_outlasts_an_eviction(rt: HostRuntime) {
     let alloc = rt.alloc();
-    let slots = vec![in alloc; MemorySlot::new(alloc)?]?;
+    let slots = only(&rt, alloc, MemorySlot::new(alloc));
     let calls = [
         (Call::PageIn(0x10), Answer::Done),
         (Call::PageIn(0x11), Answer::Done),
@@ -138,9 +137,9 @@ fn a_reservation_outlasts_an_eviction(rt: HostRuntime) -> Result<(), Fail> {
 
 /// An unchanged page needs no slot, however often it comes and goes, and shows the image's bytes.
 #[test]
-fn an_unchanged_page_is_dropped(rt: HostRuntime) -> Result<(), Fail> {
+fn an_unchanged_page_is_dropped(rt: HostRuntime) {
     let alloc = rt.alloc();
-    let slots = vec![in alloc; MemorySlot::new(alloc)?]?;
+    let slots = only(&rt, alloc, MemorySlot::new(alloc));
     let calls = [
         (Call::PageIn(0x10), Answer::Done),
         (slice(0, 1), ran(1, SliceStop::Budget)),
@@ -158,9 +157,9 @@ fn an_unchanged_page_is_dropped(rt: HostRuntime) -> Result<(), Fail> {
 
 /// A page whose device fails to save it stays in its frame.
 #[test]
-fn a_page_that_is_not_saved_stays(rt: HostRuntime) -> Result<(), Fail> {
+fn a_page_that_is_not_saved_stays(rt: HostRuntime) {
     let alloc = rt.alloc();
-    let slots = vec![in alloc; FuseSlot::new(alloc, 0)?]?;
+    let slots = only(&rt, alloc, FuseSlot::new(alloc, 0));
     let calls = [
         (Call::PageIn(0x10), Answer::Done),
         (Call::PageIn(0x11), Answer::Done),

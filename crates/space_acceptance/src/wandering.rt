@@ -9,7 +9,6 @@ use std::alloc::Global;
 use std::marker::Brand;
 use std::process::Abort;
 use std::sync::ledger::{Blank, Ledger};
-use std::test::Fail;
 use swap_slots::MemorySlot;
 use test_guests::{Random, WANDERS};
 
@@ -46,27 +45,24 @@ struct Pair<L: Ledger> {
 impl<L: Ledger> Pair<L> {
     /// Makes a call here, and the steps that ran there. The page that a slice stops for is brought in, once another has
     /// left.
-    fn call(&mut self, call: Call, random: &mut Random) -> Result<(), Fail> {
+    fn call(&mut self, rt: &impl Abort, call: Call, random: &mut Random) {
         let answer = self.bench.call(call);
         let (Call::Slice { hart, .. }, Answer::Ran(slice)) = (call, answer) else {
-            return Ok(());
+            return;
         };
-        self.step(hart, slice.ran)?;
+        self.step(rt, hart, slice.ran);
         if let SliceStop::Absent(page) = slice.stop {
             self.make_room(0x10 + random.below(9));
             self.bench.call(Call::PageIn(page));
         }
-        Ok(())
     }
 
-    fn step(&mut self, hart: u32, count: u32) -> Result<(), Fail> {
+    fn step(&mut self, rt: &impl Abort, hart: u32, count: u32) {
         for _ in 0..count {
-            self.flat
-                .step(hart)
-                .map_err(|_| "the flat process has no such step")?;
+            let stepped = self.flat.step(hart);
+            assert!(rt; stepped.is_ok(), "the flat process has no such step");
             self.steps = self.steps.saturating_add(1);
         }
-        Ok(())
     }
 
     /// Takes a page out of its frame, if it is in one.
@@ -95,82 +91,92 @@ impl<L: Ledger> Pair<L> {
     }
 }
 
-fn begin_flat(alloc: Global) -> Result<FlatProcess, Fail> {
-    let image = image_of(alloc, WANDERS)?;
-    Ok(FlatProcess::new(alloc, &image, Vec::new(alloc))?)
+fn begin_flat(rt: &impl Abort, alloc: Global) -> FlatProcess {
+    let image = image_of(rt, alloc, WANDERS);
+    FlatProcess::new(alloc, &image, Vec::new(alloc)).expect(rt, "no flat process")
 }
 
-fn memory_slots(alloc: Global) -> Result<Vec<MemorySlot>, Fail> {
+fn memory_slots(rt: &impl Abort, alloc: Global) -> Vec<MemorySlot> {
     let mut slots = Vec::new(alloc);
     for _ in 0..6 {
-        slots.push(MemorySlot::new(alloc)?)?;
+        let slot = MemorySlot::new(alloc).expect(rt, "no slot");
+        slots.push(slot).expect(rt, "no slots");
     }
-    Ok(slots)
+    slots
 }
 
 /// Both processes at the beginning, with four frames and six slots.
-fn begin_pair<L: Ledger>(alloc: Global, blank: Blank) -> Result<Pair<L>, Fail>
+fn begin_pair<L: Ledger>(rt: &impl Abort, alloc: Global, blank: Blank) -> Pair<L>
     requires name { blank.name ≡ L.name }
     requires parts { blank.parts ≡ L.parts }
     requires one_each { L.parts ≡ 5 }
 {
-    let image = image_of(alloc, WANDERS)?;
-    let slots = memory_slots(alloc)?;
-    Ok(Pair {
-        bench: Bench::begin(alloc, image, slots, blank)?,
-        flat: begin_flat(alloc)?,
+    let image = image_of(rt, alloc, WANDERS);
+    let slots = memory_slots(rt, alloc);
+    Pair {
+        bench: Bench::begin(rt, alloc, image, slots, blank),
+        flat: begin_flat(rt, alloc),
         steps: 0,
         saves: 0,
-    })
+    }
 }
 
 /// Makes so many calls, and looks at both after each.
-fn wander<L: Ledger>(rt: &impl Abort, pair: &mut Pair<L>, seed: u64) -> Result<(), Fail> {
+fn wander<L: Ledger>(rt: &impl Abort, pair: &mut Pair<L>, seed: u64) {
     let mut random = Random::new(seed);
     for call in 0..CALLS {
         let next = any_call(&mut random);
-        pair.call(next, &mut random)?;
+        pair.call(rt, next, &mut random);
         let address = 0x1_1000 + random.below(0x8000);
         assert!(rt; pair.agree(address), "call {call} of seed {seed}");
     }
-    Ok(())
 }
 
-/// Whether all pages agree, and the run of the whole schedule leaves the same registers.
-fn agrees_in_the_end<L: Ledger>(alloc: Global, pair: &mut Pair<L>) -> Result<bool, Fail> {
+/// Whether all pages agree.
+fn agree_on_pages<L: Ledger>(pair: &mut Pair<L>) -> bool {
     for address in 0x1_0000..0x1_9000 {
         if !pair.agree(address) {
-            return Ok(false);
+            return false;
         }
     }
-    let mut again = begin_flat(alloc)?;
-    if !pair.bench.run_again(&mut again) {
-        return Ok(false);
-    }
-    Ok(pair.bench.has_regs(0, again.regs(0)) && pair.bench.has_regs(1, again.regs(1)))
+    true
 }
 
-fn wanders_from<L: Ledger>(
-    rt: &impl Abort,
-    alloc: Global,
-    blank: Blank,
-    seed: u64,
-) -> Result<(), Fail>
+/// Whether the run of the whole schedule, on a process at its beginning, leaves the same registers.
+fn agrees_with<L: Ledger>(pair: &Pair<L>, again: &mut FlatProcess) -> bool {
+    pair.bench.run_again(again)
+        && pair.bench.has_regs(0, again.regs(0))
+        && pair.bench.has_regs(1, again.regs(1))
+}
+
+fn agrees_run_again<L: Ledger>(rt: &impl Abort, alloc: Global, pair: &Pair<L>) -> bool {
+    let mut again = begin_flat(rt, alloc);
+    agrees_with(pair, &mut again)
+}
+
+/// Makes the calls of a seed. Both are the same after each and in the end, and many steps and saves were among them.
+fn wanders<L: Ledger>(rt: &impl Abort, alloc: Global, pair: &mut Pair<L>, seed: u64) {
+    wander(rt, pair, seed);
+    assert!(rt; pair.steps > 5_000, "too few steps");
+    assert!(rt; pair.saves > 200, "too few saves");
+    assert!(rt; agree_on_pages(pair), "pages of seed {seed}");
+    assert!(rt;
+        agrees_run_again(rt, alloc, pair),
+        "registers of seed {seed}"
+    );
+}
+
+fn wanders_from<L: Ledger>(rt: &impl Abort, alloc: Global, blank: Blank, seed: u64)
     requires name { blank.name ≡ L.name }
     requires parts { blank.parts ≡ L.parts }
     requires one_each { L.parts ≡ 5 }
 {
-    let mut pair: Pair<L> = begin_pair(alloc, blank)?;
-    wander(rt, &mut pair, seed)?;
-    assert!(rt; pair.steps > 5_000, "{} steps", pair.steps);
-    assert!(rt; pair.saves > 200, "{} saves", pair.saves);
-    let agrees = agrees_in_the_end(alloc, &mut pair)?;
-    assert!(rt; agrees, "seed {seed}");
-    Ok(())
+    let mut pair: Pair<L> = begin_pair(rt, alloc, blank);
+    wanders(rt, alloc, &mut pair, seed);
 }
 
 #[test]
-fn a_process_on_four_frames_does_what_it_does_flat(rt: HostRuntime) -> Result<(), Fail> {
-    wanders_from::<Brand>(&rt, rt.alloc(), Blank::new(5), 1)?;
-    wanders_from::<Brand>(&rt, rt.alloc(), Blank::new(5), 20_261_123)
+fn a_process_on_four_frames_does_what_it_does_flat(rt: HostRuntime) {
+    wanders_from::<Brand>(&rt, rt.alloc(), Blank::new(5), 1);
+    wanders_from::<Brand>(&rt, rt.alloc(), Blank::new(5), 20_261_123);
 }

@@ -14,7 +14,6 @@ use std::marker::Brand;
 use std::process::Abort;
 use std::sync::Wait;
 use std::sync::ledger::{Blank, Ledger};
-use std::test::Fail;
 use swap_slots::{MemorySlot, SwapSlot};
 use test_guests::STORES_A_BYTE;
 use test_slots::FlipSlot;
@@ -31,44 +30,49 @@ const DATA: Key = Key {
 
 /// A machine of four frames, with these slots and one process that runs no instruction by itself.
 fn begun<L: Ledger, S: SwapSlot>(
+    rt: &impl Abort,
     alloc: Global,
     slots: Vec<S>,
     blank: Blank,
-) -> Result<Shared<L, S, ClockRing>, Fail>
+) -> Shared<L, S, ClockRing>
     requires name { blank.name ≡ L.name }
     requires parts { blank.parts ≡ L.parts }
     requires one_each { L.parts ≡ 5 }
 {
-    let desk: Desk<L, ClockRing> = Desk::new(alloc, 4, blank)?;
+    let desk: Desk<L, ClockRing> = Desk::new(alloc, 4, blank).expect(rt, "no desk");
     let mut shared: Shared<L, S, ClockRing> = Shared::new(alloc, desk, slots);
-    let image = image_of(alloc, STORES_A_BYTE)?;
-    let _added = shared.add(alloc, image, Vec::new(alloc))?;
-    Ok(shared)
+    let image = image_of(rt, alloc, STORES_A_BYTE);
+    let _added = shared
+        .add(alloc, image, Vec::new(alloc))
+        .expect(rt, "no process");
+    shared
 }
 
 /// While an admission is out, the list has a page that is not resident, and a frame is nowhere.
-fn finds_what_is_kept<L: Ledger, R: Wait + Abort>(
+fn finds_what_is_out<L: Ledger, S: SwapSlot, C: Clock, R: Wait + Abort>(
     rt: &R,
-    alloc: Global,
-    blank: Blank,
-) -> Result<(), Fail>
+    shared: &Shared<L, S, C>,
+) {
+    assert!(rt; shared.audit(rt));
+    let hold = shared.admit(rt, DATA).expect(rt, "no process");
+    let HoldOfPager { reply, .. } = hold;
+    let Some(Ok(admission)) = reply else {
+        panic!(rt; "not admitted");
+    };
+    assert!(rt; !shared.audit(rt));
+    let undone = shared.undo(rt, admission).expect(rt, "no process");
+    assert!(rt; undone.reply.is_ok());
+    assert!(rt; shared.audit(rt));
+}
+
+fn finds_what_is_kept<L: Ledger, R: Wait + Abort>(rt: &R, alloc: Global, blank: Blank)
     requires name { blank.name ≡ L.name }
     requires parts { blank.parts ≡ L.parts }
     requires one_each { L.parts ≡ 5 }
 {
-    let slots = sound_slots(alloc, 1)?;
-    let shared: Shared<L, MemorySlot, ClockRing> = begun(alloc, slots, blank)?;
-    assert!(rt; shared.audit(rt));
-    let hold = shared.admit(rt, DATA).ok_or("no process")?;
-    let HoldOfPager { reply, .. } = hold;
-    let Some(Ok(admission)) = reply else {
-        return Err("not admitted".into());
-    };
-    assert!(rt; !shared.audit(rt));
-    let undone = shared.undo(rt, admission).ok_or("no process")?;
-    assert!(rt; undone.reply.is_ok());
-    assert!(rt; shared.audit(rt));
-    Ok(())
+    let slots = sound_slots(rt, alloc, 1);
+    let shared: Shared<L, MemorySlot, ClockRing> = begun(rt, alloc, slots, blank);
+    finds_what_is_out(rt, &shared);
 }
 
 /// A page is brought in.
@@ -101,69 +105,103 @@ fn next_victim<L: Ledger, S: SwapSlot, C: Clock, R: Wait>(
     None
 }
 
-/// Each page is brought in and swept out again, and the page of data, which is changed, is in its slot.
-fn sweeps_out<L: Ledger, S: SwapSlot, C: Clock, R: Wait + Abort>(
+/// A page is the next victim, and the one hart takes its notices.
+fn is_swept<L: Ledger, S: SwapSlot, C: Clock, R: Wait + Abort>(
     rt: &R,
     shared: &Shared<L, S, C>,
-) -> Result<(), Fail> {
-    assert!(rt; comes_in(rt, shared, CODE));
-    assert!(rt; comes_in(rt, shared, DATA));
-    let slice = shared.locks().slice(rt, 0, 0, 4).ok_or("no process")?;
-    assert!(rt; matches!(slice.reply, Some(ran) if ran.ran == 4));
-    assert!(rt; next_victim(rt, shared) == Some(CODE));
+    key: Key,
+) {
+    assert!(rt; next_victim(rt, shared) == Some(key));
     shared.locks().notice(rt, 0, 0);
-    let code = shared.collect(rt, CODE).ok_or("no process")?;
-    assert!(rt; matches!(code.reply, Some(Looked::Freed)));
-    assert!(rt; next_victim(rt, shared) == Some(DATA));
-    shared.locks().notice(rt, 0, 0);
-    let data = shared.collect(rt, DATA).ok_or("no process")?;
-    let HoldOfAll { reply, .. } = data;
-    let Some(Looked::Dirty(job)) = reply else {
-        return Err("not changed".into());
-    };
-    let saved = shared.saved(rt, job.run()).ok_or("no process")?;
-    assert!(rt; matches!(saved.reply, Some(SaveOutcome::Freed)));
-    Ok(())
 }
 
-/// A damaged page does not come in, and is in no list once its admission is undone.
-fn lists_no_damaged_page<L: Ledger, R: Wait + Abort>(
-    rt: &R,
-    alloc: Global,
-    blank: Blank,
-) -> Result<(), Fail>
-    requires name { blank.name ≡ L.name }
-    requires parts { blank.parts ≡ L.parts }
-    requires one_each { L.parts ≡ 5 }
-{
-    let mut slots = Vec::new(alloc);
-    slots.push(FlipSlot::new(alloc, 1)?)?;
-    let shared: Shared<L, FlipSlot, ClockRing> = begun(alloc, slots, blank)?;
-    sweeps_out(rt, &shared)?;
-    let hold = shared.page_in(rt, &OpenGate, DATA).ok_or("no process")?;
+/// Four instructions run, the last of which changes the page of data.
+fn stores<L: Ledger, S: SwapSlot, C: Clock, R: Wait + Abort>(rt: &R, shared: &Shared<L, S, C>) {
+    let slice = shared.locks().slice(rt, 0, 0, 4).expect(rt, "no process");
+    assert!(rt; matches!(slice.reply, Some(ran) if ran.ran == 4));
+}
+
+/// The page of code, which is unchanged, leaves at once.
+fn frees_code<L: Ledger, S: SwapSlot, C: Clock, R: Wait + Abort>(rt: &R, shared: &Shared<L, S, C>) {
+    let code = shared.collect(rt, CODE).expect(rt, "no process");
+    assert!(rt; matches!(code.reply, Some(Looked::Freed)));
+}
+
+/// The page of data is saved.
+fn saves_data<L: Ledger, S: SwapSlot, C: Clock, R: Wait + Abort>(rt: &R, shared: &Shared<L, S, C>) {
+    let data = shared.collect(rt, DATA).expect(rt, "no process");
+    let HoldOfAll { reply, .. } = data;
+    let Some(Looked::Dirty(job)) = reply else {
+        panic!(rt; "not changed");
+    };
+    let saved = shared.saved(rt, job.run()).expect(rt, "no process");
+    assert!(rt; matches!(saved.reply, Some(SaveOutcome::Freed)));
+}
+
+/// Each page is brought in and swept out again, and the page of data, which is changed, is in its slot.
+fn sweeps_out<L: Ledger, S: SwapSlot, C: Clock, R: Wait + Abort>(rt: &R, shared: &Shared<L, S, C>) {
+    assert!(rt; comes_in(rt, shared, CODE));
+    assert!(rt; comes_in(rt, shared, DATA));
+    stores(rt, shared);
+    is_swept(rt, shared, CODE);
+    frees_code(rt, shared);
+    is_swept(rt, shared, DATA);
+    saves_data(rt, shared);
+}
+
+/// The page of data is damaged, and its admission is undone.
+fn stays_out<L: Ledger, S: SwapSlot, C: Clock, R: Wait + Abort>(rt: &R, shared: &Shared<L, S, C>) {
+    let hold = shared.page_in(rt, &OpenGate, DATA).expect(rt, "no process");
     let HoldOfBoth { reply, .. } = hold;
     let Some(PagedIn::Failed { admission, fault }) = reply else {
-        return Err("the page has come in".into());
+        panic!(rt; "the page has come in");
     };
     assert!(rt; fault == PageInFault::Damaged);
     shared.undo(rt, admission);
     assert!(rt; shared.audit(rt));
-    let room = Vec::with_capacity(alloc, shared.processes() as usize)?;
-    let parts = shared.into_parts(room);
+}
+
+/// Whether the list has an entry of a page.
+fn is_listed<L: Ledger, C: Clock>(desk: &Desk<L, C>, page: Key) -> bool {
     for place in 0..8 {
-        if let Some((key, _)) = parts.desk.pager().entry(place) {
-            assert!(rt; key != DATA);
+        if let Some((key, _)) = desk.pager().entry(place) {
+            if key == page {
+                return true;
+            }
         }
     }
-    Ok(())
+    false
+}
+
+/// A damaged page does not come in, and is in no list once its admission is undone.
+fn lists_no_damaged_page<L: Ledger, R: Wait + Abort>(rt: &R, alloc: Global, blank: Blank)
+    requires name { blank.name ≡ L.name }
+    requires parts { blank.parts ≡ L.parts }
+    requires one_each { L.parts ≡ 5 }
+{
+    let slots = liar(rt, alloc);
+    let shared: Shared<L, FlipSlot, ClockRing> = begun(rt, alloc, slots, blank);
+    sweeps_out(rt, &shared);
+    stays_out(rt, &shared);
+    let room = Vec::with_capacity(alloc, shared.processes() as usize).expect(rt, "no room");
+    let parts = shared.into_parts(room);
+    assert!(rt; !is_listed(&parts.desk, DATA));
+}
+
+/// One slot, whose first load lies.
+fn liar(rt: &impl Abort, alloc: Global) -> Vec<FlipSlot> {
+    let mut slots = Vec::new(alloc);
+    let slot = FlipSlot::new(alloc, 1).expect(rt, "no slot");
+    slots.push(slot).expect(rt, "no slots");
+    slots
 }
 
 #[test]
-fn an_admission_that_is_kept_is_found(rt: HostRuntime) -> Result<(), Fail> {
-    finds_what_is_kept::<Brand, HostRuntime>(&rt, rt.alloc(), Blank::new(5))
+fn an_admission_that_is_kept_is_found(rt: HostRuntime) {
+    finds_what_is_kept::<Brand, HostRuntime>(&rt, rt.alloc(), Blank::new(5));
 }
 
 #[test]
-fn a_damaged_page_is_in_no_list(rt: HostRuntime) -> Result<(), Fail> {
-    lists_no_damaged_page::<Brand, HostRuntime>(&rt, rt.alloc(), Blank::new(5))
+fn a_damaged_page_is_in_no_list(rt: HostRuntime) {
+    lists_no_damaged_page::<Brand, HostRuntime>(&rt, rt.alloc(), Blank::new(5));
 }

@@ -6,7 +6,6 @@ use clock_policy::Key;
 use reclaim_daemon::Gate;
 use status_cell::Status;
 use std::sync::atomic::{AtomicU64, Ordering};
-use std::test::Fail;
 use std::thread::sleep;
 use std::time::Duration;
 use test_guests::WRITES_A_SUM;
@@ -43,7 +42,7 @@ impl Gate for Written<'_> {
 
 /// There is a frame for each page, so that none is to leave its own.
 #[test]
-fn a_page_is_written_while_it_stays(rt: HostRuntime) -> Result<(), Fail> {
+fn a_page_is_written_while_it_stays(rt: HostRuntime) {
     let alloc = rt.alloc();
     let gate = Written {
         rt: &rt,
@@ -55,12 +54,11 @@ fn a_page_is_written_while_it_stays(rt: HostRuntime) -> Result<(), Fail> {
         slice: 10,
         ahead: true,
     };
-    let slots = sound_slots(alloc, 100)?;
-    let run = played(&rt, alloc, setting, slots, &[WRITES_A_SUM], &gate)?;
+    let slots = sound_slots(&rt, alloc, 100);
+    let run = played(&rt, alloc, setting, slots, &[WRITES_A_SUM], &gate);
     expect(&rt, &run, &[(0, 114, b"B")]);
     assert!(rt; gate.saves.load(Ordering::SeqCst) != 0);
     assert!(rt; run.report.victims == 0);
-    Ok(())
 }
 
 const AHEAD_ON_FOUR_FRAMES: Setting = Setting {
@@ -71,19 +69,17 @@ const AHEAD_ON_FOUR_FRAMES: Setting = Setting {
 };
 
 #[test]
-fn processes_share_four_frames_that_are_cleaned(rt: HostRuntime) -> Result<(), Fail> {
+fn processes_share_four_frames_that_are_cleaned(rt: HostRuntime) {
     for _ in 0..RUNS {
-        let run = played_by_three(&rt, rt.alloc(), AHEAD_ON_FOUR_FRAMES)?;
+        let run = played_by_three(&rt, rt.alloc(), AHEAD_ON_FOUR_FRAMES);
         assert!(rt; matches!(run.cleans, Some(cleans) if cleans <= run.report.page_ins));
     }
-    Ok(())
 }
 
 #[test]
-fn no_page_is_cleaned_unasked(rt: HostRuntime) -> Result<(), Fail> {
+fn no_page_is_cleaned_unasked(rt: HostRuntime) {
     let alloc = rt.alloc();
-    let slots = sound_slots(alloc, 32)?;
-    let run = played_sum(&rt, alloc, ON_FOUR_FRAMES, slots)?;
+    let slots = sound_slots(&rt, alloc, 32);
+    let run = played_sum(&rt, alloc, ON_FOUR_FRAMES, slots);
     assert!(rt; run.cleans == None);
-    Ok(())
 }

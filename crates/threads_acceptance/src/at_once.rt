@@ -6,7 +6,6 @@ use clock_policy::Key;
 use reclaim_daemon::Gate;
 use status_cell::Status;
 use std::sync::atomic::{AtomicU64, Ordering};
-use std::test::Fail;
 use std::thread::sleep;
 use std::time::Duration;
 use test_guests::{STORES_A_BYTE, WRITES_A_SUM};
@@ -177,7 +176,7 @@ impl Gate for HeldSave<'_> {
 }
 
 #[test]
-fn two_processes_run_at_the_same_time(rt: HostRuntime) -> Result<(), Fail> {
+fn two_processes_run_at_the_same_time(rt: HostRuntime) {
     let alloc = rt.alloc();
     let gate = Meeting {
         rt: &rt,
@@ -185,7 +184,7 @@ fn two_processes_run_at_the_same_time(rt: HostRuntime) -> Result<(), Fail> {
         one: AtomicU64::new(0),
         missed: AtomicU64::new(0),
     };
-    let slots = sound_slots(alloc, 4)?;
+    let slots = sound_slots(&rt, alloc, 4);
     let report = played(
         &rt,
         alloc,
@@ -193,14 +192,13 @@ fn two_processes_run_at_the_same_time(rt: HostRuntime) -> Result<(), Fail> {
         slots,
         &[STORES_A_BYTE, STORES_A_BYTE],
         &gate,
-    )?;
+    );
     expect(&rt, &report, &[(0, 7, b""), (0, 7, b"")]);
     assert!(rt; gate.missed.load(Ordering::SeqCst) == 0);
-    Ok(())
 }
 
 #[test]
-fn a_process_runs_while_another_loads(rt: HostRuntime) -> Result<(), Fail> {
+fn a_process_runs_while_another_loads(rt: HostRuntime) {
     let alloc = rt.alloc();
     let gate = HeldLoad {
         rt: &rt,
@@ -209,7 +207,7 @@ fn a_process_runs_while_another_loads(rt: HostRuntime) -> Result<(), Fail> {
         ran: AtomicU64::new(0),
         missed: AtomicU64::new(0),
     };
-    let slots = sound_slots(alloc, 4)?;
+    let slots = sound_slots(&rt, alloc, 4);
     let report = played(
         &rt,
         alloc,
@@ -217,17 +215,16 @@ fn a_process_runs_while_another_loads(rt: HostRuntime) -> Result<(), Fail> {
         slots,
         &[WRITES_A_SUM, WRITES_A_SUM],
         &gate,
-    )?;
+    );
     expect(&rt, &report, &[(0, 114, b"B"), (0, 114, b"B")]);
     assert!(rt; gate.missed.load(Ordering::SeqCst) == 0);
-    Ok(())
 }
 
 /// There is a frame for each page, so that process 1 finds one while the save of process 0 is held. But once process 0 has stored to its 62
 /// pages of stack at most three frames are free, fewer than are to be, even where the page of its text has left its own, the only one that
 /// needs no save for that. So a save begins.
 #[test]
-fn a_process_runs_while_a_page_of_another_is_saved(rt: HostRuntime) -> Result<(), Fail> {
+fn a_process_runs_while_a_page_of_another_is_saved(rt: HostRuntime) {
     let alloc = rt.alloc();
     let gate = HeldSave {
         rt: &rt,
@@ -245,9 +242,8 @@ fn a_process_runs_while_a_page_of_another_is_saved(rt: HostRuntime) -> Result<()
         slice: 1000,
         ahead: false,
     };
-    let slots = sound_slots(alloc, 70)?;
-    let report = played(&rt, alloc, setting, slots, &[FITS, STORES_A_BYTE], &gate)?;
+    let slots = sound_slots(&rt, alloc, 70);
+    let report = played(&rt, alloc, setting, slots, &[FITS, STORES_A_BYTE], &gate);
     expect(&rt, &report, &[(0, FITS_STEPS, b""), (0, 7, b"")]);
     assert!(rt; gate.missed.load(Ordering::SeqCst) == 0);
-    Ok(())
 }

@@ -8,10 +8,9 @@ use flat_machine::End;
 use hart_carriers::{CrewRequest, RunReport, run_machine};
 use reclaim_daemon::{Gate, OpenGate};
 use rv_asm::assemble;
-use std::alloc::{AllocError, Global};
+use std::alloc::Global;
 use std::process::Abort;
 use std::sync::Wait;
-use std::test::Fail;
 use std::thread::Threads;
 use swap_slots::{MemorySlot, SwapSlot};
 use test_guests::WRITES_A_SUM;
@@ -30,43 +29,54 @@ pub(crate) struct Setting {
 pub(crate) type Told<'a> = (u32, u64, &'a [u8]);
 
 /// The image of a source.
-pub(crate) fn image_of(alloc: Global, source: &str) -> Result<Image, Fail> {
-    let listing = assemble(alloc, source).map_err(|_| "the source has a fault")?;
-    Ok(listing.into_image())
+pub(crate) fn image_of(rt: &impl Abort, alloc: Global, source: &str) -> Image {
+    assemble(alloc, source)
+        .expect(rt, "the source has a fault")
+        .into_image()
 }
 
 /// So many slots whose calls succeed.
-pub(crate) fn sound_slots(alloc: Global, count: u32) -> Result<Vec<MemorySlot>, AllocError> {
+pub(crate) fn sound_slots(rt: &impl Abort, alloc: Global, count: u32) -> Vec<MemorySlot> {
     let mut slots = Vec::new(alloc);
     for _ in 0..count {
-        slots.push(MemorySlot::new(alloc)?)?;
+        let slot = MemorySlot::new(alloc).expect(rt, "no slot");
+        slots.push(slot).expect(rt, "no slots");
     }
-    Ok(slots)
+    slots
+}
+
+/// Processes that run these sources, on no input.
+fn processes_of(rt: &impl Abort, alloc: Global, sources: &[&str]) -> Vec<(Image, Vec<u8>)> {
+    let mut handed = Vec::new(alloc);
+    for source in sources {
+        let image = image_of(rt, alloc, source);
+        handed
+            .push((image, Vec::new(alloc)))
+            .expect(rt, "no processes");
+    }
+    handed
 }
 
 /// What a machine has come to whose processes run these sources, on no input.
-pub(crate) fn played<S: SwapSlot + Send, G: Gate + Sync, R: Threads + Wait + Sync>(
+pub(crate) fn played<S: SwapSlot + Send, G: Gate + Sync, R: Threads + Wait + Abort + Sync>(
     rt: &R,
     alloc: Global,
     setting: Setting,
     slots: Vec<S>,
     sources: &[&str],
     gate: &G,
-) -> Result<RunReport, Fail>
+) -> RunReport
     requires workers { 0 < setting.workers }
     requires slice { 0 < setting.slice }
 {
-    let mut handed = Vec::new(alloc);
-    for source in sources {
-        handed.push((image_of(alloc, source)?, Vec::new(alloc)))?;
-    }
+    let handed = processes_of(rt, alloc, sources);
     let Setting {
         frames,
         workers,
         slice,
         ahead,
     } = setting;
-    Ok(run_machine::<S, ClockRing, G, R>(
+    run_machine::<S, ClockRing, G, R>(
         rt,
         alloc,
         frames,
@@ -78,16 +88,17 @@ pub(crate) fn played<S: SwapSlot + Send, G: Gate + Sync, R: Threads + Wait + Syn
             ahead,
         },
         gate,
-    )?)
+    )
+    .expect(rt, "no run")
 }
 
 /// The same of one process that writes a sum.
-pub(crate) fn played_sum<S: SwapSlot + Send, R: Threads + Wait + Sync>(
+pub(crate) fn played_sum<S: SwapSlot + Send, R: Threads + Wait + Abort + Sync>(
     rt: &R,
     alloc: Global,
     setting: Setting,
     slots: Vec<S>,
-) -> Result<RunReport, Fail>
+) -> RunReport
     requires workers { 0 < setting.workers }
     requires slice { 0 < setting.slice }
 {

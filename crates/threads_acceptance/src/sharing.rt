@@ -9,7 +9,6 @@ use reclaim_daemon::OpenGate;
 use std::alloc::Global;
 use std::process::Abort;
 use std::sync::Wait;
-use std::test::Fail;
 use std::thread::Threads;
 use test_guests::WRITES_A_SUM;
 
@@ -24,15 +23,14 @@ pub(crate) const ON_FOUR_FRAMES: Setting = Setting {
 };
 
 #[test]
-fn a_process_pages_on_four_frames(rt: HostRuntime) -> Result<(), Fail> {
+fn a_process_pages_on_four_frames(rt: HostRuntime) {
     let alloc = rt.alloc();
     for _ in 0..RUNS {
-        let slots = sound_slots(alloc, 12)?;
-        let run = played_sum(&rt, alloc, ON_FOUR_FRAMES, slots)?;
+        let slots = sound_slots(&rt, alloc, 12);
+        let run = played_sum(&rt, alloc, ON_FOUR_FRAMES, slots);
         expect(&rt, &run, &[(0, 114, b"B")]);
         assert!(rt; run.report.page_ins >= 12 && run.report.victims >= 8);
     }
-    Ok(())
 }
 
 /// Three processes come to what each comes to alone, and their pages come and go.
@@ -40,26 +38,25 @@ pub(crate) fn played_by_three<R: Threads + Wait + Sync + Abort>(
     rt: &R,
     alloc: Global,
     setting: Setting,
-) -> Result<RunReport, Fail>
+) -> RunReport
     requires workers { 0 < setting.workers }
     requires slice { 0 < setting.slice }
 {
-    let slots = sound_slots(alloc, 32)?;
+    let slots = sound_slots(rt, alloc, 32);
     let sources = [COUNTS, COUNTS, WRITES_A_SUM];
-    let run = played(rt, alloc, setting, slots, &sources, &OpenGate)?;
+    let run = played(rt, alloc, setting, slots, &sources, &OpenGate);
     expect(
         rt,
         &run,
         &[(2000, 6027, b""), (2000, 6027, b""), (0, 114, b"B")],
     );
     assert!(rt; run.report.page_ins >= 16 && run.report.victims >= 8);
-    Ok(run)
+    run
 }
 
 #[test]
-fn processes_share_four_frames(rt: HostRuntime) -> Result<(), Fail> {
+fn processes_share_four_frames(rt: HostRuntime) {
     for _ in 0..RUNS {
-        played_by_three(&rt, rt.alloc(), ON_FOUR_FRAMES)?;
+        played_by_three(&rt, rt.alloc(), ON_FOUR_FRAMES);
     }
-    Ok(())
 }

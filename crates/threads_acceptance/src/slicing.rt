@@ -6,7 +6,6 @@ use clock_policy::Key;
 use reclaim_daemon::Gate;
 use status_cell::Status;
 use std::sync::atomic::{AtomicU64, Ordering};
-use std::test::Fail;
 
 const SETTING: Setting = Setting {
     frames: 64,
@@ -40,16 +39,15 @@ impl Gate for Lengths {
 }
 
 #[test]
-fn the_longest_slices_are_as_long_as_was_asked_for(rt: HostRuntime) -> Result<(), Fail> {
+fn the_longest_slices_are_as_long_as_was_asked_for(rt: HostRuntime) {
     let alloc = rt.alloc();
     let gate = Lengths {
         whole: AtomicU64::new(0),
         longer: AtomicU64::new(0),
     };
-    let slots = sound_slots(alloc, 4)?;
-    let run = played(&rt, alloc, SETTING, slots, &[COUNTS], &gate)?;
+    let slots = sound_slots(&rt, alloc, 4);
+    let run = played(&rt, alloc, SETTING, slots, &[COUNTS], &gate);
     expect(&rt, &run, &[(2000, 6027, b"")]);
     assert!(rt; gate.whole.load(Ordering::SeqCst) != 0);
     assert!(rt; gate.longer.load(Ordering::SeqCst) == 0);
-    Ok(())
 }

@@ -4,8 +4,8 @@ use crate::machine::{Setting, expect, played, sound_slots};
 use clock_policy::Key;
 use reclaim_daemon::Gate;
 use status_cell::Status;
+use std::process::Abort;
 use std::sync::atomic::{AtomicU64, Ordering};
-use std::test::Fail;
 use test_guests::WRITES_A_SUM;
 
 /// How often a machine is run, since its threads meet otherwise each time.
@@ -78,7 +78,7 @@ impl Gate for Watching {
 /// Each process needs more pages than there are frames, so that frames come free while it runs: its pair has risen by then, and rises again
 /// before the last one does.
 #[test]
-fn the_pairs_of_two_processes_rise(rt: HostRuntime) -> Result<(), Fail> {
+fn the_pairs_of_two_processes_rise(rt: HostRuntime) {
     let alloc = rt.alloc();
     for _ in 0..RUNS {
         let gate = Watching {
@@ -86,7 +86,7 @@ fn the_pairs_of_two_processes_rise(rt: HostRuntime) -> Result<(), Fail> {
             one: Sight::new(),
             others: AtomicU64::new(0),
         };
-        let slots = sound_slots(alloc, 32)?;
+        let slots = sound_slots(&rt, alloc, 32);
         let run = played(
             &rt,
             alloc,
@@ -94,16 +94,18 @@ fn the_pairs_of_two_processes_rise(rt: HostRuntime) -> Result<(), Fail> {
             slots,
             &[WRITES_A_SUM, WRITES_A_SUM],
             &gate,
-        )?;
+        );
         expect(&rt, &run, &[(0, 114, b"B"), (0, 114, b"B")]);
         assert!(rt; gate.others.load(Ordering::SeqCst) == 0);
-        for sight in [&gate.zero, &gate.one] {
-            assert!(rt; sight.falls.load(Ordering::SeqCst) == 0);
-            assert!(rt; sight.rises.load(Ordering::SeqCst) >= 2);
-            assert!(rt; sight.steps.load(Ordering::SeqCst) <= 114);
-            assert!(rt; sight.output.load(Ordering::SeqCst) <= 1);
-        }
+        expect_rises(&rt, &gate.zero);
+        expect_rises(&rt, &gate.one);
         assert!(rt; run.viewers.len() == 2);
     }
-    Ok(())
+}
+
+fn expect_rises(rt: &impl Abort, sight: &Sight) {
+    assert!(rt; sight.falls.load(Ordering::SeqCst) == 0);
+    assert!(rt; sight.rises.load(Ordering::SeqCst) >= 2);
+    assert!(rt; sight.steps.load(Ordering::SeqCst) <= 114);
+    assert!(rt; sight.output.load(Ordering::SeqCst) <= 1);
 }

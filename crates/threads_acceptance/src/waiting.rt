@@ -4,12 +4,13 @@
 use crate::guests::{FITS, FITS_STEPS, TAKES_TURNS, TAKES_TURNS_STEPS};
 use crate::machine::{Setting, expect, played, sound_slots};
 use flat_machine::End;
+use machine_sides::Report;
 use reclaim_daemon::OpenGate;
-use std::test::Fail;
+use std::process::Abort;
 
 /// All pages have a frame, but fewer frames are free than are to be, and no page can leave its own, since there is no slot.
 #[test]
-fn a_program_whose_pages_fit_ends_without_slots(rt: HostRuntime) -> Result<(), Fail> {
+fn a_program_whose_pages_fit_ends_without_slots(rt: HostRuntime) {
     let alloc = rt.alloc();
     for workers in [1, 4] {
         let setting = Setting {
@@ -18,17 +19,24 @@ fn a_program_whose_pages_fit_ends_without_slots(rt: HostRuntime) -> Result<(), F
             slice: 1000,
             ahead: false,
         };
-        let slots = sound_slots(alloc, 0)?;
-        let run = played(&rt, alloc, setting, slots, &[FITS], &OpenGate)?;
+        let slots = sound_slots(&rt, alloc, 0);
+        let run = played(&rt, alloc, setting, slots, &[FITS], &OpenGate);
         expect(&rt, &run, &[(0, FITS_STEPS, b"")]);
-        assert!(rt; run.report.victims < 100, "{} victims", run.report.victims);
+        assert!(rt; run.report.victims < 100);
     }
-    Ok(())
+}
+
+/// Each process has exited with the sum of all turns.
+fn expect_turns(rt: &impl Abort, report: &Report) {
+    assert!(rt; report.audit);
+    for process in report.processes.iter() {
+        assert!(rt; process.end == Some(End::Exited(3200)));
+    }
 }
 
 /// Harts that yield while another one waits for a page take a turn each, and no more.
 #[test]
-fn harts_that_yield_wait_for_the_others(rt: HostRuntime) -> Result<(), Fail> {
+fn harts_that_yield_wait_for_the_others(rt: HostRuntime) {
     let alloc = rt.alloc();
     for frames in [4, 16, 64] {
         for workers in [1, 2, 4, 8] {
@@ -38,24 +46,18 @@ fn harts_that_yield_wait_for_the_others(rt: HostRuntime) -> Result<(), Fail> {
                 slice: 1000,
                 ahead: false,
             };
-            let slots = sound_slots(alloc, 64)?;
-            let run = played(&rt, alloc, setting, slots, &[TAKES_TURNS], &OpenGate)?;
-            assert!(rt; run.report.audit);
+            let slots = sound_slots(&rt, alloc, 64);
+            let run = played(&rt, alloc, setting, slots, &[TAKES_TURNS], &OpenGate);
+            expect_turns(&rt, &run.report);
             for process in run.report.processes.iter() {
-                assert!(rt; process.end == Some(End::Exited(3200)));
-                assert!(rt;
-                    process.steps < 3 * TAKES_TURNS_STEPS,
-                    "{} steps",
-                    process.steps
-                );
+                assert!(rt; process.steps < 3 * TAKES_TURNS_STEPS);
             }
         }
     }
-    Ok(())
 }
 
 #[test]
-fn eight_processes_of_eight_harts_share_sixteen_frames(rt: HostRuntime) -> Result<(), Fail> {
+fn eight_processes_of_eight_harts_share_sixteen_frames(rt: HostRuntime) {
     let alloc = rt.alloc();
     let setting = Setting {
         frames: 16,
@@ -63,13 +65,9 @@ fn eight_processes_of_eight_harts_share_sixteen_frames(rt: HostRuntime) -> Resul
         slice: 1000,
         ahead: false,
     };
-    let slots = sound_slots(alloc, 256)?;
+    let slots = sound_slots(&rt, alloc, 256);
     let sources = [TAKES_TURNS; 8];
-    let run = played(&rt, alloc, setting, slots, &sources, &OpenGate)?;
-    assert!(rt; run.report.audit);
+    let run = played(&rt, alloc, setting, slots, &sources, &OpenGate);
+    expect_turns(&rt, &run.report);
     assert!(rt; run.report.processes.len() == 8);
-    for process in run.report.processes.iter() {
-        assert!(rt; process.end == Some(End::Exited(3200)));
-    }
-    Ok(())
 }

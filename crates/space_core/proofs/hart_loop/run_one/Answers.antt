@@ -11,7 +11,7 @@ returns g c = record {
     came = search rules;
     leaves =
         let told = left_by_bus g.S.SwapSlot.content c.args.hart g.O.Opening.opening c.new-bus.result.hart c.execute_at-outcome.new.bus.hart c.args.memory.now c.new-bus.result.memory.now c.execute_at-outcome.new.bus.memory.now
-            (with_pc c.args.regs.now c.args.pc.now) c.execute_at-outcome.result c.new-bus.ensures.hart c.execute_at-outcome.ensures.kept.0 c.new-bus.ensures.memory c.requires.opening c.execute_at-outcome.ensures.leaves in
+        (with_pc c.args.regs.now c.args.pc.now) c.execute_at-outcome.result c.new-bus.ensures.hart c.execute_at-outcome.ensures.kept.0 c.new-bus.ensures.memory c.requires.opening c.execute_at-outcome.ensures.leaves in
         search (rules, told);
     kept = search (rules, kept_told);
     coheres = search rules;

@@ -14,6 +14,7 @@ ghost use Rattle.page_store.specs.View.{keeping_of, origin_of, page_of, place_in
 use crate::answer::{Collected, SaveRefusal};
 use crate::job::{SaveJob, SavedJob};
 use crate::refusal::{FillFault, LeaveRefusal, NotLeaving};
+use crate::seal::Sha256Digest;
 use crate::state::{Absent, Keeping, Origin, State};
 use frame_pool::Frame;
 use std::sync::ledger::Ledger;
@@ -46,10 +47,12 @@ impl<L: Ledger, S: SwapSlot> State<L, S> {
                 origin.write_to(&mut frame);
                 (State::Resident(frame, Keeping::NoSlot), Ok(()))
             }
-            Ok(Absent::Away(mut copy)) => match copy.load_whole(frame.bytes_mut()) {
-                Ok(()) => (State::Resident(frame, Keeping::Saved(copy)), Ok(())),
-                Err(fault) => (State::Away(copy), Err((frame, fault))),
-            },
+            Ok(Absent::Away(mut copy)) => {
+                match copy.load_whole(frame.bytes_mut(), &mut Sha256Digest) {
+                    Ok(()) => (State::Resident(frame, Keeping::Saved(copy)), Ok(())),
+                    Err(fault) => (State::Away(copy), Err((frame, fault))),
+                }
+            }
             Err(other) => (other, Err((frame, FillFault::NotAbsent))),
         }
     }

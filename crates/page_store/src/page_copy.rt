@@ -1,13 +1,13 @@
 //! A page in its slot, with the digest of what was saved unless this kind of slot is known to be honest.
 
-ghost use Rattle.std.specs.Prelude.{◌≡◌, IfErr, OnOk, OnErr};
+ghost use Rattle.std.specs.Prelude.{◌≡◌, ◌⊎◌, IfErr, OnOk, OnErr};
 ghost use Rattle.sha2.specs.Sha256.{sha256};
 ghost use Rattle.swap_slots.specs.Slot.{Rose};
 ghost use Rattle.page_store.specs.CopyValue.{RefusesLoad};
 ghost use Rattle.page_store.specs.Seal.{IsSealed, sealed_digest};
 
 use crate::refusal::FillFault;
-use crate::seal::has_digest;
+use crate::seal::{PageDigest, has_digest};
 use std::marker::Model;
 use swap_slots::{SlotFault, SwapSlot};
 
@@ -55,9 +55,13 @@ impl<S: SwapSlot> PageCopy<S> {
         self.slot.load(page)
     }
 
-    /// Loads the page, and compares its digest with the one that was kept, if one was taken.
+    /// Loads the page, and compares its digest with the one that was kept, if one was taken: one call of the slot, and one digest at most.
     #[tactic(auto, using(crate::proofs::Seals::digest_stays, crate::proofs::Seals::still_sealed, crate::proofs::Seals::comes_whole, crate::proofs::Seals::comes_damaged))]
-    pub(crate) fn load_whole(&mut self, page: &mut [u8; 4096]) -> Result<(), FillFault>
+    pub(crate) fn load_whole<D: PageDigest>(
+        &mut self,
+        page: &mut [u8; 4096],
+        digest: &mut D,
+    ) -> Result<(), FillFault>
         ensures whole { OnOk result (sha256 page.new ≡ self.old.digest) }
         ensures refused { IfErr result (RefusesLoad S.honest S.failures self.old self.new
             page.new) }
@@ -66,11 +70,12 @@ impl<S: SwapSlot> PageCopy<S> {
         ensures passed { OnOk result (S.failures self.new.slot ≡ S.failures self.old.slot) }
         ensures digest { self.new.digest ≡ self.old.digest }
         ensures called { S.called self.old.slot self.new.slot }
+        ensures once { (digest.new ≡ digest.old) ⊎ D.taken digest.old digest.new }
     {
         if self.slot.load(page).is_err() {
             return Err(FillFault::Device);
         }
-        if !has_digest(page, &self.digest) {
+        if !has_digest(page, &self.digest, digest) {
             return Err(FillFault::Damaged);
         }
         Ok(())

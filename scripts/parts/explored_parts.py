@@ -38,7 +38,7 @@ def rows_in(text):
 
 def added_up(tables):
     """The rows of all tables as one run of all seeds would have them: runs that came to the same are added, by their first seed."""
-    sums = {}
+    sums: dict[tuple[str, ...], tuple[int, int]] = {}
     for times, seed, *came in (row for rows in tables for row in rows):
         before = sums.get(tuple(came), (0, int(seed)))
         sums[tuple(came)] = (before[0] + int(times), min(before[1], int(seed)))

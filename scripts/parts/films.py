@@ -50,7 +50,7 @@ class Film:
     """A film that was read: its head and its last line as they stand, and the lines of its scenes with their events and replies."""
 
     def __init__(self, words, said=None):
-        self.lines, self.events, self.head, self.outputs = [], [], None, None
+        self.lines, self.events, self.head, self.outputs = [], [], "", ""
         progress = Progress()
         # a slot's file that takes no more is a failed save, and no signal that ends the program
         with subprocess.Popen([*film_command(), *words], stdout=subprocess.PIPE, stderr=said, text=True, encoding="ascii", restore_signals=False) as run:
@@ -61,7 +61,7 @@ class Film:
                 raise
             finally:
                 progress.end()
-        if run.returncode or self.outputs is None:
+        if run.returncode or not self.outputs:
             raise FilmFault("", run.returncode if run.returncode > 0 else 2)
 
     def read(self, stream, progress):
@@ -84,12 +84,18 @@ class Film:
     def frames(self):
         return json.loads(self.head)["frames"]
 
-    def last_scene(self):
-        """The last scene, whole: what it leaves out is as in the scenes before it, from the last one on that is whole."""
+    def scenes(self, first=0):
+        """The scenes, whole, from one on that is written whole: what one leaves out is as in the scene before it."""
         scene = None
-        for line in self.lines[(len(self.lines) - 1) // SCENES_OF_A_PIECE * SCENES_OF_A_PIECE:]:
+        for number, line in enumerate(self.lines[first:]):
             told = json.loads(line)
-            scene = unfolded(told, scene) if scene and told["event"] else told
+            scene = unfolded(told, scene) if number % SCENES_OF_A_PIECE and told["event"] else told
+            yield scene
+
+    def last_scene(self):
+        scene = None
+        for scene in self.scenes((len(self.lines) - 1) // SCENES_OF_A_PIECE * SCENES_OF_A_PIECE):
+            pass
         return scene
 
     def pieces(self):

@@ -15,6 +15,11 @@ def program(name):
     return packed if os.access(packed, os.X_OK) else f"{TOP}/crates/{name}/out/{name}"
 
 
+def processors():
+    """How many this process may use; not every system says which these are."""
+    return len(os.sched_getaffinity(0)) if hasattr(os, "sched_getaffinity") else os.cpu_count() or 1
+
+
 def is_preview():
     """Whether a first look calls the script, by the toolchain's run without proofs."""
     return os.environ.get("PAGED_UNPROVED") == "preview"

@@ -1,17 +1,19 @@
 """Drives `guest debug` behind a debugger for people or for gdb: its lines and replies as calls, and what the guest writes as it comes.
 
 What the guest writes is seen at its calls of the machine: each is a point of its own, at which the registers tell what is written. `guest debug`
-goes back by itself. What points a run met is looked up by another one, which runs along the same turns: guest_turns.py does that.
+goes back by itself, also to the last place where a point stops.
 """
+import contextlib
 import os
 import re
 import shutil
 import sys
 import tempfile
+import time
 
 from guest_image import ECALL, TOP, Image
 from guest_record import Record
-from guest_turns import BY_TURNS, HARTS, Driven, Interrupted, Look, Refused, Told, Turns, line_of, never
+from guest_turns import BY_TURNS, HARTS, Driven, Interrupted, Refused, Told, Turns, line_of, never
 
 
 WRITE, PAGE = 64, 4096
@@ -20,10 +22,9 @@ USER_POINTS = 8    # as many are left to the user at least
 MOST_WATCHED = 16
 PIECE = 500000    # steps, between which the caller may interrupt
 SINGLE_PIECE = 64    # the same of steps that are taken one by one
-NEAR = 500000    # steps that are looked at first for a point that was met; twice as far before a place waits one that may look next
-WIDER = 32    # so much longer is the next stretch that is looked at
+NEAR = 500000    # steps that are looked at first for a point on the way back
+LOOK_SECONDS = 0.2    # the next look is longer where one has taken less: between two looks the caller may interrupt
 MOST_BACK = 2**32 - 1    # steps of one line
-MOST_HARTS = 64    # steps of which the harts are asked at once
 TRAPS = {
     0: "a jump to an address that is no multiple of 4", 2: "a word that is no instruction of this machine", 3: "an ebreak",
     4: "a load from an address that is no multiple of its width", 6: "a store to an address that is no multiple of its width",
@@ -47,7 +48,7 @@ class Guest:
 
     def __init__(self, image, frames=None, given=None, told=lambda content: None, record=None):
         self.told, self.name, self.folder = told, image, tempfile.TemporaryDirectory()
-        given = self.file_of(given) if given else None
+        self.given = given = self.file_of(given) if given else None
         self.record = Record(record) if record else None
         if self.record:
             self.record.test(image, given)
@@ -56,18 +57,14 @@ class Guest:
         self.goes_back = frames is None
         self.run = Driven(command(image, given, frames))
         self.turns = self.record.turns if self.record else Turns()
-        self.spare = []    # others, which wait at earlier steps
-        self.looked = None    # what was met in a stretch that was looked at: the points, its first and its last step, and the list
-        self.known_harts = {}    # of steps by turns
         self.points = {}     # the user's: number of the point by ("break", address) or ("watch", address, length)
         self.calls = {}      # ours, by address
         self.addresses = {}  # by the number of a point
         self.steps, self.has_ended, self.turn = 0, False, 0
         self.furthest = 0    # the step after which something was written that was told last
+        self.stood = None    # which hart was told to stand at a break, and after how many steps
         self.ask("run 0")    # where the image or the input is refused, it is told here
         self.image = Image(image)
-        if self.goes_back:
-            self.again = command(self.kept(image, "image"), self.kept(given, "input"))
         sites = self.image.ecalls()
         self.sees_output = len(sites) <= MOST_POINTS - USER_POINTS
         for address in sites if self.sees_output else []:
@@ -82,16 +79,11 @@ class Guest:
             shutil.copyfileobj(it, to)
         return to.name
 
-    def kept(self, name, kind):
-        """A copy of a file, which stays as it is now."""
-        return name and shutil.copyfile(name, f"{self.folder.name}/{kind}")
-
     def ask(self, line, lines=1):
         return self.run.ask(line, lines)
 
     def close(self):
-        for it in (self.run, *self.spare):
-            it.close()
+        self.run.close()
 
     # ---- looks
 
@@ -182,9 +174,6 @@ class Guest:
             other = self.turns.take(self.steps, hart, count)
             if other is not None:
                 self.furthest = min(self.furthest, other)
-                self.known_harts = {step: hart for step, hart in self.known_harts.items() if step < other}
-                self.looked = None
-                self.keep_spare(lambda it: it.goal <= other)
         self.steps += count
         if self.record:
             self.turn = self.next_hart(hart)
@@ -255,8 +244,14 @@ class Guest:
                 done += stop.steps
             if stop.why != "limit" and not self.is_ours(stop):
                 stop.steps = done
-                return stop
+                return self.noted(stop)
         return Stop("limit", self.turn, done)
+
+    def noted(self, stop):
+        """A stop. If it is at a break, that is passed by the next step of another hart."""
+        if stop.why == "break":
+            self.stood = stop.hart, self.steps
+        return stop
 
     def is_ours(self, stop):
         return stop.why == "break" and not self.is_break(stop.address)
@@ -295,14 +290,15 @@ class Guest:
         return BY_TURNS if self.turn == hart else hart
 
     def wait_for_turn(self, hart, interrupted):
-        """A record's steps up to the next one of a hart. A stop, where something comes before it."""
+        """A record's steps up to the next one of a hart. A stop, where something comes before it; not the break at which the caller was told that the
+        hart stands whose turn it is."""
         while not self.is_at_end():
             runs, left = self.turns.at(self.steps)
             if runs == hart:
                 return None
-            stop = self.go(left, interrupted)
-            if stop.why != "limit":
-                return stop
+            stop = self.pass_here() if self.stood == (runs, self.steps) else self.go(left, interrupted)
+            if stop.why != "limit" and not self.is_ours(stop):
+                return self.noted(stop)
         return Stop("record", hart)
 
     def go_alone(self, hart, limit, interrupted):
@@ -368,7 +364,7 @@ class Guest:
 
     def steps_before_exit(self):
         """How many steps a record has before the one with which the program exits; 0 where it does not exit, or stands there."""
-        exits = self.record.ending and self.record.ending[0] == "exited"
+        exits = self.record and self.record.ending and self.record.ending[0] == "exited"
         return max(self.turns.end - 1 - self.steps, 0) if exits else 0
 
     def next_hart(self, default):
@@ -377,11 +373,12 @@ class Guest:
         return default if hart == BY_TURNS else hart
 
     def other_record(self, words):
-        return Refused(0, f"{self.record.name} is no record of this run: after {self.steps} steps {words}")
+        name = self.record.name if self.record else self.name
+        return Refused(0, f"{name} is no record of this run: after {self.steps} steps {words}")
 
     def tells_other_ending(self):
         """Whether the program stands at the end of a record, and has not ended as that tells."""
-        return self.is_at_end() and self.ending() != self.record.ending
+        return self.record is not None and self.is_at_end() and self.ending() != self.record.ending
 
     def back(self, count):
         """To the state so many steps before."""
@@ -396,116 +393,140 @@ class Guest:
         before the step that changes it."""
         if not self.goes_back:
             raise Refused(0, WITH_FRAMES)
-        try:
-            met = self.last_met(self.steps if undoes else self.steps - 1, interrupted) if self.points else None
-        except Interrupted:
-            return Stop("interrupt", self.turn)
-        if met is None:
+        if not self.points:
             return self.seek(0, "begin")
-        stop = self.seek(met.steps - (undoes and met.why == "watch"), met.why)
-        stop.hart, stop.address = met.hart, met.address
+        begun, has_ended = self.steps, self.has_ended
+        try:
+            with self.without_calls():
+                address = self.undo_change() if undoes else None
+                why, number = self.last_met(interrupted) if address is None else ("watch", None)
+        except Interrupted:
+            self.go_along(begun)
+            self.has_ended = has_ended
+            return Stop("interrupt", self.turn)
+        if address is not None:
+            return Stop("watch", self.next_hart(self.turn), 0, address)
+        stop = self.noted(self.seek(self.steps, why))
+        if number is not None:
+            stop.address = self.addresses[number]
+        if why == "watch":
+            self.seek(self.steps - 1, why)
+            stop.hart = self.next_hart(self.turn)
+            if not undoes:
+                self.step_along()
         return stop
 
-    def back_of(self, hart, interrupted=never):
+    def find_change(self, address, length, interrupted=never):
+        """To the place behind the last step that has changed one of some bytes. None where there is none: then nothing has moved."""
+        if not self.goes_back:
+            raise Refused(0, WITH_FRAMES)
+        begun, has_ended, points = self.steps, self.has_ended, self.points
+        for number in points.values():
+            self.ask(f"remove {number}")
+        self.points = {}
+        try:
+            self.add_point("watch", address, length)
+            stop = self.back_to_stop(interrupted=interrupted) if begun else Stop("begin", self.turn)
+        finally:
+            self.remove_point("watch", address, length)
+            for point in points:
+                self.add_point(*point)
+        if stop.why != "begin":
+            return stop
+        self.go_along(begun)
+        self.has_ended = has_ended
+        return None
+
+    def last_met(self, interrupted):
+        """Goes back to the last place at which a point stops a run: `watch` or `break`, and its number; or `begin`. Another look begins where the
+        last one has ended."""
+        width = NEAR
+        while True:
+            if interrupted():
+                raise Interrupted
+            begun = time.monotonic()
+            words = self.ask(f"back-go {width}").split()
+            self.steps, self.has_ended = int(words[-3]), False
+            if words[0] != "limit":
+                return words[0], int(words[1]) if words[0] in ("watch", "break") else None
+            if time.monotonic() < begun + LOOK_SECONDS:
+                width = min(2 * width, MOST_BACK)
+
+    def undo_change(self):
+        """Takes the last step back, if it has changed a watched byte: then its address."""
+        before = self.watched()
+        if not self.steps or not before:
+            return None
+        self.seek(self.steps - 1, "watch")
+        changed = next((it[1] for it, now in self.watched().items() if now != before[it]), None)
+        if changed is None:
+            self.step_along()
+        return changed
+
+    @contextlib.contextmanager
+    def without_calls(self):
+        """The points of the user alone, for as long."""
+        for number in self.calls.values():
+            self.ask(f"remove {number}")
+        try:
+            yield
+        finally:
+            for address in self.calls:
+                self.calls[address] = self.add(f"break {address}")
+
+    def step_along(self):
+        """The next step of the run once more. No point stops it."""
+        self.ask(f"step {self.next_hart(self.turn)}")
+        self.steps += 1
+        self.piece(0)    # whose turn it is
+
+    def go_along(self, step):
+        """Forward again along the run, up to a step. No point stops it."""
+        points, self.points = self.points, {}
+        with self.without_calls():
+            for number in points.values():
+                self.ask(f"remove {number}")
+            for runs, count in self.turns.pieces(self.steps, step):
+                self.ask(line_of(runs, count))
+                self.steps += count
+        for point in points:
+            self.add_point(*point)
+        self.piece(0)
+
+    def back_of(self, hart):
         """To the place before the last step of a hart, or to the beginning, where it has taken none."""
         if not self.goes_back:
             raise Refused(0, WITH_FRAMES)
-        try:
-            step = self.step_before(hart, interrupted)
-        except Interrupted:
-            return Stop("interrupt", self.turn)
         before = self.watched()
-        stop = self.seek(step or 0, "begin" if step is None else "back")
-        stop.hart = self.turn if step is None else hart
+        if not self.back_before(hart):
+            return self.seek(0, "begin")
         changed = next((it[1] for it, now in self.watched().items() if now != before[it]), None)
-        return stop if changed is None or stop.why != "back" else Stop("watch", hart, 0, changed)
+        return Stop("back", hart) if changed is None else Stop("watch", hart, 0, changed)
+
+    def back_before(self, hart):
+        """Goes back before the last step of a hart, if it has taken one. By turns each hart that is live has one among so many as there are harts."""
+        for runs, first, last in self.turns.pieces_before(self.steps):
+            if runs == hart:
+                self.seek(last - 1, "back")
+                return True
+            if runs == BY_TURNS:
+                for step in range(last - 1, max(first, last - HARTS) - 1, -1):
+                    self.seek(step, "back")
+                    if self.turn == hart:
+                        return True
+                if last - first >= HARTS:
+                    return False
+        return False
 
     def seek(self, step, why):
         """To an earlier state of this run, which is the present one from then on."""
-        if step < self.steps:
-            while step < self.steps:
-                count = min(self.steps - step, MOST_BACK)
-                self.ask(f"back {count}")
-                self.steps -= count
+        while step < self.steps:
+            count = min(self.steps - step, MOST_BACK)
+            self.ask(f"back {count}")
+            self.steps -= count
             self.has_ended = False
-            self.piece(0)    # whose turn it is
+        self.piece(0)    # whose turn it is
         return Stop(why, self.next_hart(self.turn))
-
-    def keep_spare(self, holds):
-        for it in self.spare:
-            if not holds(it):
-                it.close()
-        self.spare = [it for it in self.spare if holds(it)]
-
-    def arrived(self, step, interrupted):
-        """One that has gone to a step to look: of those that wait the nearest before it, or a new one. Another one goes with it, and waits."""
-        self.keep_spare(lambda it: it.goal <= step)
-        nearest = max(self.spare, key=lambda it: it.goal, default=None)
-        self.keep_spare(lambda it: it is nearest or step - it.goal <= WIDER * NEAR)
-        going = nearest or Driven(self.again)
-        self.spare = [it for it in self.spare if it is not going]
-        going.set_out(self.turns, step)
-        if step > 2 * NEAR and not self.spare:
-            self.spare.append(Driven(self.again))
-            self.spare[-1].set_out(self.turns, step - 2 * NEAR)
-        going.arrive(interrupted)
-        return going
-
-    def last_met(self, end, interrupted):
-        """The last point that the run met up to a step. Looks at the last stretch before it first, then at longer ones; of one with many
-        points at its beginning, and then at what is left."""
-        low, high, width, best, look = 0, end, NEAR, None, None
-        if self.looked and self.looked[0] == frozenset(self.points) and self.looked[1] <= end <= self.looked[2]:
-            high = self.looked[1]
-            known = [it for it in self.looked[3] if it.steps <= end and (it.why == "watch" or it.steps < self.steps)]
-            if known:
-                return known[-1]
-        try:
-            while low < high:
-                start = max(low, high - width)
-                if look and look.driven.steps <= start:
-                    look.begin_at(start, interrupted)
-                else:
-                    look = self.look_from(start, look, interrupted)
-                look.run(high, interrupted)
-                if not look.met:
-                    high, width = start, width * WIDER
-                elif look.driven.steps == high:
-                    self.looked = (frozenset(self.points), look.first, high, look.met)
-                    return look.met[-1]
-                else:
-                    best, low = look.met[-1], look.driven.steps
-                    width = max(1, (high - low) // 2)
-            return best
-        finally:
-            if look:
-                look.driven.close()
-
-    def look_from(self, start, before, interrupted):
-        if before:
-            before.driven.close()
-        return Look(self.arrived(start, interrupted), self.turns, self.points, self.steps)
-
-    def step_before(self, hart, interrupted):
-        """The last step of a hart before this place, or None. By turns each hart that is live has one among so many as there are harts."""
-        for runs, first, last in self.turns.pieces_before(self.steps):
-            if runs == hart:
-                return last - 1
-            if runs == BY_TURNS:
-                found = next((it for it in range(last - 1, max(first, last - HARTS) - 1, -1) if self.hart_of(it, first, interrupted) == hart), None)
-                if found is not None or last - first >= HARTS:
-                    return found
-        return None
-
-    def hart_of(self, step, first, interrupted):
-        """The hart of a step by turns, of which there are some from a first one on. Those before it are kept too."""
-        if step not in self.known_harts:
-            begin = max(first, step + 1 - MOST_HARTS)
-            look = self.arrived(begin, interrupted)
-            harts = [Told(it).last for it in look.asks(["run 1"] * (step + 1 - begin))]
-            look.close()
-            self.known_harts.update(zip(range(begin, step + 1), harts))
-        return self.known_harts[step]
 
 
 def command(image, given, frames=None):

@@ -11,6 +11,7 @@ TOP = os.path.dirname(os.path.dirname(os.path.dirname(os.path.realpath(__file__)
 ABI = ("zero ra sp gp tp t0 t1 t2 s0 s1 a0 a1 a2 a3 a4 a5 a6 a7 s2 s3 s4 s5 s6 s7 s8 s9 s10 s11 t3 t4 t5 t6").split()
 ECALL = 0x73
 TEXT_START = 0x10000
+NO_NAMES = ("$", ".L")    # marks of code and data, and the labels that a compiler made for itself
 
 
 class Image:
@@ -22,7 +23,10 @@ class Image:
             content = it.read()
         build_first()    # what is called from here on keeps its standard error
         if content[:4] == b"\x7fELF":
-            self.read_elf(content)
+            try:
+                self.read_elf(content)
+            except (struct.error, IndexError):
+                raise ValueError(f"{name}: its headers or its symbols are past its end") from None
         elif content.startswith(b".words\n"):
             words = [int(it, 16) for it in content.split()[1:]]
             self.code = [(TEXT_START, b"".join(struct.pack("<I", it) for it in words))]
@@ -63,7 +67,8 @@ class Image:
                 self.code.append((address, content[offset:offset + size]))
         count, = struct.unpack_from("<H", content, 48)
         rows = [struct.unpack_from("<10I", content, sections + 40 * it) for it in range(count)] if sections else []
-        functions = {}
+        global_labels: dict[int, str] = {}
+        functions: dict[int, str] = {}
         for row in rows:
             if row[1] != 2:
                 continue
@@ -72,10 +77,10 @@ class Image:
             for at in range(row[4], row[4] + row[5], 16):
                 name, value, _, info, _, section = struct.unpack_from("<IIIBBH", content, at)
                 text = strings[name:].partition(b"\0")[0].decode("ascii", "replace")
-                if info % 16 in (0, 1, 2) and 0 < section < 0xFF00 and text and not text.startswith("$"):
-                    table = functions if info % 16 == 2 else self.symbols
+                if info % 16 in (0, 1, 2) and 0 < section < 0xFF00 and text and not text.startswith(NO_NAMES):
+                    table = functions if info % 16 == 2 else global_labels if info // 16 == 1 else self.symbols
                     table.setdefault(value, text)
-        self.symbols.update(functions)
+        self.symbols |= global_labels | functions
         self.order = sorted(self.symbols)
 
     def word(self, address):
@@ -165,9 +170,9 @@ def text_of(word, pc, image=None):
     if op == 0x0F and kind == 0:
         return "fence"
     if op == 0x2F and kind == 2:
-        names = {0: "amoadd", 1: "amoswap", 2: "lr", 3: "sc", 4: "amoxor", 8: "amoor", 12: "amoand", 16: "amomin", 20: "amomax", 24: "amominu",
-                 28: "amomaxu"}
-        name = names.get(word >> 27, "")
+        atomics = {0: "amoadd", 1: "amoswap", 2: "lr", 3: "sc", 4: "amoxor", 8: "amoor", 12: "amoand", 16: "amomin", 20: "amomax", 24: "amominu",
+                   28: "amomaxu"}
+        name = atomics.get(word >> 27, "")
         order = ["", ".rl", ".aq", ".aqrl"][word >> 25 & 3]
         if name == "lr":
             return f"lr.w{order} {rd}, ({rs1})"

@@ -12,7 +12,7 @@ PRINT = b" ([0-9a-f]{64}) " + NUMBER
 TURN = re.compile(NUMBER + b" " + NUMBER)
 CAUSES = (0, 2, 3, 4, 6, 12, 13, 15)
 KILLS = {1: "there was no room for its pages", 2: "a page of it could not be read back", 3: "a page of it was damaged", 4: "its schedule was full",
-         5: "memory was wanting", 6: "its limit of steps was reached"}
+         5: "memory ran out", 6: "its limit of steps was reached"}
 
 
 class NoRecord(ValueError):
@@ -95,7 +95,7 @@ class Record:
 
     def test_turns(self, steps):
         if self.turns.end != steps:
-            raise NoRecord(f"{self.name}: its turns have {self.turns.end} steps, and it tells of {steps}")
+            raise NoRecord(f"{self.name}: its turns have {self.turns.end} steps, and it says {steps}")
         turns = self.turns
         if sum(-(-(turns.last(at) - turns.firsts[at]) // WORD) for at in range(len(turns.firsts))) > MOST_TURNS:
             raise NoRecord(f"{self.name} has more turns than a run can have, which are {MOST_TURNS}")

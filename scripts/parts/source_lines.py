@@ -97,8 +97,8 @@ def ranges_of(table, compilation):
     for sequence in table.sequences:
         if sequence[0].address == 0:    # what the linker left out
             continue
-        for start, pairs in itertools.groupby(itertools.pairwise(sequence), lambda pair: pair[0].address):
-            pairs = list(pairs)
+        for start, of_start in itertools.groupby(itertools.pairwise(sequence), lambda pair: pair[0].address):
+            pairs = list(of_start)
             first, (last, after) = pairs[0][0], pairs[-1]
             if start < after.address:
                 place, opening = (Place(paths.get(row.file, ""), row.line) for row in (last, first))
@@ -189,21 +189,29 @@ def folders_of_units(text):
             yield int(table[1], 0), folder[1].rstrip() if folder else ""
 
 
+def parts_in(pattern, text):
+    """What the groups of a pattern find in a text, which has it in any case."""
+    found = re.search(pattern, text)
+    if not found:
+        raise Fault(f"readelf printed a line of another kind: {text[:80]}")
+    return found.groups()
+
+
 def table_of_text(text):
     """A table as readelf prints it: its version, folders, files and statements, in this order."""
     head, _, statements = text.partition(" Line Number Statements:\n")
     head, _, files = head.partition(" The File Name Table")
     head, _, folders = head.partition(" The Directory Table")
-    table = Table(int(re.search(r"DWARF Version: +(\d+)", head)[1]))
+    table = Table(int(*parts_in(r"DWARF Version: +(\d+)", head)))
     if table.version >= 5:
-        entry = re.compile(r"  (\d+)\t(?:(?:\(\w+\)\t)?(\d+)\t)?.*?(?:offset: \w+\): |\(string\)\s)(.*)")
+        entry = r"\A  (\d+)\t(?:(?:\(\w+\)\t)?(\d+)\t)?.*?(?:offset: \w+\): |\(string\)\s)(.*)\Z"
     else:
-        entry = re.compile(r"  (\d+)\t(?:(\d+)\t\d+\t\d+\t)?(.*)")
+        entry = r"\A  (\d+)\t(?:(\d+)\t\d+\t\d+\t)?(.*)\Z"
     for line in entry_lines(folders):
-        number, _, name = entry.fullmatch(line).groups()
+        number, _, name = parts_in(entry, line)
         table.folders[int(number)] = name
     for line in entry_lines(files):
-        number, folder, name = entry.fullmatch(line).groups()
+        number, folder, name = parts_in(entry, line)
         table.files[int(number)] = name, int(folder)
     table.sequences = split_rows(read_statements(statements))
     return table

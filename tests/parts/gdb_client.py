@@ -18,7 +18,12 @@ class Served:
 
     def __init__(self, image, *options):
         self.run = subprocess.Popen([f"{TOP}/scripts/gdb-server", *options, "0", image], stdin=subprocess.DEVNULL, stderr=subprocess.PIPE, text=True)
-        self.port = int(re.search(r"port (\d+)", self.run.stderr.readline())[1])
+        assert self.run.stderr
+        self.says = self.run.stderr
+        told = self.says.readline()
+        found = re.search(r"port (\d+)", told)
+        assert found, told
+        self.port = int(found[1])
 
     def ends(self):
         """The status with which it ends by itself, or None where it does not."""
@@ -33,7 +38,7 @@ class Served:
     def __exit__(self, *_):
         self.run.kill()
         self.run.wait()
-        self.run.stderr.close()
+        self.says.close()
 
 
 class Client:

@@ -14,13 +14,20 @@ def called(*words):
     return subprocess.run([f"{TOP}/guest", *words], stdin=subprocess.DEVNULL, stdout=subprocess.PIPE, stderr=subprocess.DEVNULL, check=False, timeout=60)
 
 
+def whole(pattern, line):
+    """A line as the pattern has it."""
+    found = pattern.fullmatch(line)
+    assert found, line
+    return found
+
+
 class Traced:
     """A run by turns: of each step the hart, the pc before it and the text with what it changed; its ending and what it writes. With options
     of `guest trace` it is a part of the run, of which the first step has the number 0 here."""
 
     def __init__(self, image, *options):
         told = called("trace", *options, image).stdout.decode()
-        rows = [STEP.fullmatch(line) for line in told.splitlines()]
+        rows = [whole(STEP, line) for line in told.splitlines()]
         self.harts = [int(it[2]) for it in rows]
         self.pcs = [int(it[3], 16) for it in rows]
         self.texts = [it[4] for it in rows]
@@ -60,10 +67,13 @@ class Traced:
 def by_slices(image, count):
     """The turns of a run by turns of up to so many steps each, and how it ends, of what `guest debug` replies to lines of its own."""
     with subprocess.Popen([f"{TOP}/guest", "debug", image], stdin=subprocess.PIPE, stdout=subprocess.PIPE, stderr=subprocess.DEVNULL, text=True) as run:
+        assert run.stdin and run.stdout
+        to, replies = run.stdin, run.stdout
+
         def ask(line):
-            run.stdin.write(f"{line}\n")
-            run.stdin.flush()
-            return run.stdout.readline().strip()
+            to.write(f"{line}\n")
+            to.flush()
+            return replies.readline().strip()
 
         turns = []
         while ask("end") == "goes on":
@@ -75,7 +85,7 @@ def by_slices(image, count):
 
 def joined(harts):
     """The turns of some steps, each of one hart."""
-    turns = []
+    turns: list[list[int]] = []
     for hart in harts:
         if turns and turns[-1][0] == hart:
             turns[-1][1] += 1

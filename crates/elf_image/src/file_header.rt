@@ -135,7 +135,7 @@ fn has_no_headers(file: &[u8]) -> bool
     requires { 52 ≤ length file.now }
     ensures { result ≡ has_no_headers file.now }
 {
-    let count = headers_count(file) as usize;
-    let end = headers_offset(file) as usize + PROGRAM_HEADER_SIZE * count;
-    count > 0 && (half_at(file, 42) as usize != PROGRAM_HEADER_SIZE || end > file.len())
+    let count = headers_count(file);
+    let end = u64::from(headers_offset(file)) + PROGRAM_HEADER_SIZE as u64 * u64::from(count);
+    count > 0 && (half_at(file, 42) as usize != PROGRAM_HEADER_SIZE || end > file.len() as u64)
 }

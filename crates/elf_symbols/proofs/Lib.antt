@@ -1,3 +1,4 @@
+pub mod CalledSymbols
 pub mod LastSymbols
 pub mod SectionHeaders
 pub mod Standing

@@ -1,3 +1,4 @@
 pub mod Nearest
+pub mod Objects
 pub mod Sections
 pub mod SymbolTables

@@ -36,11 +36,12 @@ has_sections file =
 unfoldable pub section_count : List ℕ → ℕ
 section_count file = if has_sections file then headers_count file else 0
 
--- the section header at an offset: sh_type, sh_offset, sh_size and sh_link
+-- the section header at an offset: sh_type, sh_addr, sh_offset, sh_size and sh_link
 unfoldable pub section_at : List ℕ → ℕ → Section
 section_at file offset =
     record {
       kind = word_at (offset + 4) file;
+      address = word_at (offset + 12) file;
       offset = word_at (offset + 16) file;
       size = word_at (offset + 20) file;
       link = word_at (offset + 24) file;

@@ -1,5 +1,5 @@
 -- The symbols of an ELF file that name code or places in it (System V gABI, chapters "Symbol Table" and "String Table").
-use Rattle.std.specs.Prelude.{ℕ, ◌*◌, ◌/◌, ◌%◌, ◌==◌, nat_lt, Bool, false, not, ◌&&◌, ◌||◌, if◌then◌else◌, List, length, drop, find, slice_get, slice_index, Option, Some, None}
+use Rattle.std.specs.Prelude.{ℕ, ◌+◌, ◌*◌, ◌/◌, ◌%◌, ◌==◌, nat_lt, Bool, false, not, ◌&&◌, ◌||◌, if◌then◌else◌, List, length, drop, find, slice_get, slice_index, Option, Some, None}
 use Rattle.std.specs.List.{range_with_len, filter_map, before_first}
 use Rattle.std.specs.Option.{option_map, option_or}
 use Rattle.elf_symbols.specs.declared.symbols.Entry.{Entry}
@@ -19,11 +19,19 @@ abbrev pub begins_name : Option ℕ → Bool
 begins_name None = false
 begins_name (Some byte) = not (byte == 0) && not (byte == 36)
 
+-- a name that begins with these two bytes, `.L`, is that of a label of the assembler's own
+abbrev pub is_of_assembler : Option ℕ → Option ℕ → Bool
+is_of_assembler None next = false
+is_of_assembler (Some byte) None = false
+is_of_assembler (Some byte) (Some next) = (byte == 46) && (next == 76)
+
 -- what 16 bytes of a table name: st_name, st_value, st_info, of which the lower half is the kind, and st_shndx
 abbrev pub is_place : List ℕ → List ℕ → Bool
 is_place symbol names =
     names_place (slice_index symbol 12 % 16)
-    && (is_in_section (half_at 14 symbol) && begins_name (slice_get names (word_at 0 symbol)))
+    && (is_in_section (half_at 14 symbol)
+    && (begins_name (slice_get names (word_at 0 symbol))
+    && not (is_of_assembler (slice_get names (word_at 0 symbol)) (slice_get names (word_at 0 symbol + 1)))))
 
 abbrev pub named_by : List ℕ → Named
 named_by symbol = record { name = word_at 0 symbol; is_function = slice_index symbol 12 % 16 == 2 }

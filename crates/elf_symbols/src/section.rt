@@ -24,9 +24,12 @@ const SYMBOL_TABLE: u32 = 2;
 /// A section header, as far as it is needed.
 #[derive(Clone, Copy, Debug)]
 pub(crate) struct Section {
-    kind: u32,
-    offset: u32,
-    size: u32,
+    pub(crate) kind: u32,
+    /// Where it stands in memory.
+    pub(crate) address: u32,
+    /// Where it stands in the file, and how many bytes it has.
+    pub(crate) offset: u32,
+    pub(crate) size: u32,
     /// For a table of symbols, the number of the section with its names.
     link: u32,
 }
@@ -66,7 +69,7 @@ fn symbol_section(file: &[u8]) -> Option<Section>
 
 /// The section of a number, if the file has so many.
 #[tactic(auto, using(crate::proofs::SectionHeaders::section_there, crate::proofs::SectionHeaders::section_past))]
-fn section_of(file: &[u8], number: usize) -> Option<Section>
+pub(crate) fn section_of(file: &[u8], number: usize) -> Option<Section>
     ensures { result ≡ slice_get (sections file.now) number }
 {
     if number >= section_count(file) {
@@ -84,6 +87,7 @@ fn read_section(file: &[u8], number: usize) -> Section
     let header = header_place(file, number);
     Section {
         kind: word_at(file, header + 4),
+        address: word_at(file, header + 12),
         offset: word_at(file, header + 16),
         size: word_at(file, header + 20),
         link: word_at(file, header + 24),
@@ -110,7 +114,11 @@ fn section_count(file: &[u8]) -> usize
     if half_at(file, HEADER_SIZE_AT) as usize != HEADER_SIZE {
         return 0;
     }
-    let count = half_at(file, HEADER_COUNT_AT) as usize;
-    let end = word_at(file, HEADERS_AT) as usize + HEADER_SIZE * count;
-    if end > file.len() { 0 } else { count }
+    let count = half_at(file, HEADER_COUNT_AT);
+    let end = u64::from(word_at(file, HEADERS_AT)) + HEADER_SIZE as u64 * u64::from(count);
+    if end > file.len() as u64 {
+        0
+    } else {
+        count as usize
+    }
 }

@@ -2,7 +2,7 @@
 
 ghost use Rattle.std.specs.Prelude.{◌≡◌, ℕ, ◌+◌, ◌*◌, ◌≤◌, IfOk, IfSome, IfNone, OnOk, None, length, position, slice_get, ◌==◌};
 ghost use Rattle.elf_symbols.specs.Nearest.{IsNearest, standing, symbol_name};
-ghost use Rattle.elf_symbols.specs.SymbolTables.{begins_name, entry_at, entry_of, file_name, is_in_section, name_at, names_place, table_name, with_entry};
+ghost use Rattle.elf_symbols.specs.SymbolTables.{begins_name, entry_at, entry_of, file_name, is_in_section, is_of_assembler, name_at, names_place, table_name, with_entry};
 
 use crate::place::Place;
 use crate::reading::{half_at, word_at};
@@ -11,7 +11,7 @@ use std::alloc::{AllocError, AllocFailed, Global};
 use std::collections::BTreeMap;
 
 /// How many bytes a symbol has.
-const SYMBOL_SIZE: usize = 16;
+pub(crate) const SYMBOL_SIZE: usize = 16;
 
 /// What kind of symbol a function is.
 const FUNCTION: u8 = 2;
@@ -120,7 +120,7 @@ fn entry_at(table: &[u8], names: &[u8], number: usize) -> Option<Entry>
 }
 
 /// The symbol that 16 bytes are, where it names code or a place in it: it is a function or of no kind, has a section of the program and
-/// a name, and is none of those that only tell code from data (`$x`, `$d` and longer ones).
+/// a name, and is none of those that only tell code from data (`$x`, `$d` and longer ones), nor a label of the assembler's own (`.L3`).
 #[tactic(auto, unfolding(crate::specs::SymbolTables::entry_of))]
 fn entry_of(symbol: &[u8], names: &[u8]) -> Option<Entry>
     requires { 16 ≤ length symbol.now }
@@ -131,6 +131,7 @@ fn entry_of(symbol: &[u8], names: &[u8]) -> Option<Entry>
     if !names_place(kind)
         || !is_in_section(half_at(symbol, 14))
         || !begins_name(names, name as usize)
+        || is_of_assembler(names, name)
     {
         return None;
     }
@@ -151,7 +152,7 @@ fn names_place(kind: u8) -> bool
 }
 
 /// Whether the number of a section is that of one of the file's.
-fn is_in_section(section: u16) -> bool
+pub(crate) fn is_in_section(section: u16) -> bool
     ensures { result ≡ is_in_section section }
 {
     section > 0 && section < RESERVED
@@ -167,9 +168,23 @@ fn begins_name(names: &[u8], offset: usize) -> bool
     }
 }
 
+/// Whether the name of a label of the assembler's own begins at an offset.
+fn is_of_assembler(names: &[u8], offset: u32) -> bool
+    ensures { result ≡ is_of_assembler (slice_get names.now offset) (slice_get names.now
+        (offset + 1)) }
+{
+    let Some(byte) = names.get(offset as usize) else {
+        return false;
+    };
+    let Some(next) = names.get(offset as usize + 1) else {
+        return false;
+    };
+    *byte == b'.' && *next == b'L'
+}
+
 /// The name that begins at an offset: up to the next byte 0.
 #[tactic(auto, unfolding(crate::specs::SymbolTables::name_at))]
-fn name_at(names: &[u8], offset: usize) -> &[u8]
+pub(crate) fn name_at(names: &[u8], offset: usize) -> &[u8]
     ensures { result.now ≡ name_at names.now offset }
 {
     if offset > names.len() {

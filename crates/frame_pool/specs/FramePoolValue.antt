@@ -1,3 +1,4 @@
+-- A pool of frames, as callers see it.
 use Rattle.std.specs.Prelude.{ℕ, List, map}
 use Rattle.std.specs.List.{range_with_len}
 use Rattle.frame_pool.specs.FrameValue.{FrameValue, zero_frame}

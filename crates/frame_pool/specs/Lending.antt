@@ -1,3 +1,4 @@
+-- A frame lends its bytes.
 use Rattle.std.specs.Prelude.{ℕ, List}
 use Rattle.std.specs.Borrow.{Lends, MutBor, Fml, Array, u8, RattleType}
 use Rattle.std.specs.declared.sync.ledger.Ledger.{Ghosts}

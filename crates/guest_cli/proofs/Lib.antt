@@ -1,3 +1,4 @@
+pub mod Begun
 pub mod CountedSteps
 pub mod OutputGrows
 pub mod OutputPieces

@@ -13,14 +13,11 @@ use record_commands::run_replay;
 use std::convert::AsStr;
 use std::io::{Read, Write};
 
-/// The exit status where a fault stopped the command.
-const FAULT: u8 = 2;
+/// The exit status where a fault stopped a command. Of `run`, `profile` and `replay` other statuses are the guest's.
+const FAULT: u8 = 126;
 
-/// The same of `run`, `profile` and `replay`, whose other statuses are the guest's.
-const FAULT_OF_RUN: u8 = 126;
-
-/// Runs the program on the words behind its name, and answers its exit status: that of the guest for `run`, `profile` and `replay`, else 0;
-/// for a fault, which is told on `err`, 2, and 126 for these three.
+/// Runs the program on the words after its name, and returns its exit status: that of the guest for `run`, `profile` and `replay`, else 0;
+/// or 126 for a fault, which is printed to `err`.
 pub fn run_guest<R, M, S, I, O, E>(
     rt: &R,
     machine: &M,
@@ -37,23 +34,14 @@ where
     O: Write,
     E: Write,
 {
-    let failed = failed_status(words);
     let done = run_words(rt, machine, words, input, out, err);
     let flushed = out.flush();
     match done {
         Ok(status) => match flushed {
             Ok(()) => status,
-            Err(_) => fail(&Wrong::Fault(Fault::CannotWrite), failed, err),
+            Err(_) => fail(&Wrong::Fault(Fault::CannotWrite), err),
         },
-        Err(wrong) => fail(&wrong, failed, err),
-    }
-}
-
-/// The exit status where a fault stops the command of these words.
-fn failed_status<S: AsStr>(words: &[S]) -> u8 {
-    match words.first() {
-        Some(word) if matches!(word.as_str(), "run" | "profile" | "replay") => FAULT_OF_RUN,
-        _ => FAULT,
+        Err(wrong) => fail(&wrong, err),
     }
 }
 
@@ -101,9 +89,9 @@ where
     })
 }
 
-/// Tells what is wrong. Where that can't be written either, the status alone tells it.
-fn fail<E: Write>(wrong: &Wrong<'_>, status: u8, err: &mut E) -> u8 {
+/// Prints what is wrong. Where that can't be written either, only the status shows it.
+fn fail<E: Write>(wrong: &Wrong<'_>, err: &mut E) -> u8 {
     let _ = writeln!(err, "guest: {wrong}");
     let _ = err.flush();
-    status
+    FAULT
 }

@@ -25,24 +25,45 @@ pub(crate) enum Wrong<'a> {
 }
 
 impl<'a> From<Fault<'a>> for Wrong<'a> {
+    ghost use Rattle.std.specs.Prelude.{◌≡◌};
+    ghost use Rattle.guest_cli.specs.declared.wrong.Wrong.TheVariants as wrong;
+
+    ghost from_gives = { λ why made. made ≡ wrong.Fault why };
+
     fn from(fault: Fault<'a>) -> Self {
         Wrong::Fault(fault)
     }
 }
 
 impl<'a> From<RecordsFault<'a>> for Wrong<'a> {
+    ghost use Rattle.std.specs.Prelude.{◌≡◌};
+    ghost use Rattle.guest_cli.specs.declared.wrong.Wrong.TheVariants as wrong;
+
+    ghost from_gives = { λ why made. made ≡ wrong.Records why };
+
     fn from(fault: RecordsFault<'a>) -> Self {
         Wrong::Records(fault)
     }
 }
 
 impl<'a> From<UsageFault<'a>> for Wrong<'a> {
+    ghost use Rattle.std.specs.Prelude.{◌≡◌};
+    ghost use Rattle.guest_cli.specs.declared.wrong.Wrong.TheVariants as wrong;
+
+    ghost from_gives = { λ why made. made ≡ wrong.Usage why };
+
     fn from(fault: UsageFault<'a>) -> Self {
         Wrong::Usage(fault)
     }
 }
 
 impl From<AllocError> for Wrong<'_> {
+    ghost use Rattle.std.specs.Prelude.{◌≡◌};
+    ghost use Rattle.image_files.specs.declared.fault.Fault.TheVariants.{NoMemory};
+    ghost use Rattle.guest_cli.specs.declared.wrong.Wrong.TheVariants as wrong;
+
+    ghost from_gives = { λ _ made. made ≡ wrong.Fault NoMemory };
+
     fn from(_: AllocError) -> Self {
         Wrong::Fault(Fault::NoMemory)
     }

@@ -19,7 +19,7 @@ use Rattle.guest_history.specs.declared.fault.HistoryFault.{HistoryFault}
 use Rattle.guest_history.specs.declared.fault.HistoryFault.TheVariants.{BadLine, CannotRead, CannotWrite, Run}
 use Rattle.guest_history.specs.declared.history.History.{History}
 use Rattle.guest_history.specs.declared.lines.HistoryLine.{HistoryLine}
-use Rattle.guest_history.specs.declared.lines.HistoryLine.TheVariants.{Back, BackGo, At, Plain}
+use Rattle.guest_history.specs.declared.lines.HistoryLine.TheVariants.{Back, BackGo, BackGoWithin, At, Plain}
 use Rattle.guest_history.specs.declared.reply.HistoryReply.{HistoryReply}
 use Rattle.run_paths.specs.declared.fault.RunFault.{RunFault}
 
@@ -49,6 +49,7 @@ quits_plain spoken.Quit old new answers = let looks = looks_none spoken.Quit old
 quits : (asked : HistoryLine) (old new : History) → AnswersLine asked old None new → (asked ≡ Plain spoken.Quit) × (new ≡ old)
 quits (Back count) old new answers = elim answers [ ]
 quits BackGo old new answers = elim answers [ ]
+quits (BackGoWithin count) old new answers = elim answers [ ]
 quits At old new answers = elim answers [ ]
 quits (Plain asked) old new answers = let is = quits_plain asked old new answers in (ap Plain is.0, is.1)
 

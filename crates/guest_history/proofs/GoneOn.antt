@@ -1,5 +1,6 @@
 -- Where a debugger stands after steps forward.
-use Rattle.std.proofs.Common.{◌≡◌, ℕ, ◌+◌, ◌-◌, ◌<◌, ◌≤◌, List, [], ◌∷◌, length, take, slice_index_or, Some, refl, sym, ap, subst, ◌∙◌, arith}
+use Rattle.std.proofs.Common.{◌≡◌, ℕ, zero, suc, ◌+◌, ◌-◌, ◌<◌, ◌≤◌, List, [], ◌∷◌, length, take, slice_index_or, Some, refl, sym, ap, subst, ◌∙◌, arith}
+use Rattle.std.proofs.Math.Nat.{add-suc}
 use Rattle.flat_machine.specs.Process.{Process}
 use Rattle.debug_core.specs.Debugging.{DebuggerValue}
 use Rattle.run_paths.specs.declared.path.Stretch.{Stretch}
@@ -11,6 +12,7 @@ use Rattle.run_paths.specs.Paths.{along, hart_of, part_of, step_by, step_of, ste
 use Rattle.run_paths.specs.declared.path.Path.{Path}
 use Rattle.run_paths.specs.Extending.{IsCounted}
 use Rattle.guest_history.specs.Checkpoints.{beginning}
+use Rattle.guest_history.specs.Going.{last_by, next_hart}
 use Rattle.guest_history.specs.Histories.{place_of, IsNext, Moves, Stands}
 use Rattle.run_paths.proofs.Along.{along_none, along_more, along_behind, whose_here, no_more, whose_in, steps_more}
 use Rattle.run_paths.proofs.Parts.{whose_part, steps_part}
@@ -111,3 +113,14 @@ next_turn path items first done n stretch counted within items_are there is done
 pub turn_done : (items : List Stretch) (first done next n steps : ℕ) (stretch : Stretch) → n < length items → stretch ≡ slice_index_or items n stretch → done ≡ first + steps_of (take n items) → next ≡ done + steps → steps ≤ stretch.count → stretch.count ≤ steps
     → next ≡ first + steps_of (take (n + 1) items)
 turn_done items first done next n steps stretch there is done_is next_is few all = let more = steps_more items n stretch there is in omega (arith, more, done_is, next_is, few, all)
+
+-- the hart of the last step after some more of a turn
+pub last_after : (old now : History) (stretch : Stretch) (taken steps before last : ℕ) → IsNext now.path now.done stretch → steps ≤ stretch.count → now.path.stretches.items ≡ old.path.stretches.items → now.done ≡ old.done + taken
+    → before ≡ last_by taken old → (0 < steps → last ≡ next_hart (Some stretch.whose) 0) → (steps ≡ 0 → last ≡ before) → last ≡ last_by (taken + steps) old
+last_after old now stretch taken zero before last next few path done so_far some none = none refl ∙ so_far ∙ ap (λ n. last_by n old) (omega arith)
+last_after old now stretch taken (suc n) before last next few path done so_far some none =
+    some (omega arith)
+    ∙ ap (λ w. next_hart w 0) (sym (next.next n (omega (arith, few))))
+    ∙ ap (λ (l : List Stretch). next_hart (whose_at l (now.done + n)) 0) path
+    ∙ ap (λ k. next_hart (whose_at old.path.stretches.items k) 0) (omega (arith, done))
+    ∙ ap (λ k. last_by k old) (sym (add-suc taken n))

@@ -5,19 +5,21 @@ use Rattle.text_lines.specs.Text.{words_of}
 use Rattle.debug_session.specs.Lines.{AsksFor}
 use Rattle.debug_session.specs.declared.lines.DebugLine.{DebugLine}
 use Rattle.debug_session.specs.declared.lines.Dialect.TheVariants.{Fuller}
-use Rattle.guest_history.specs.HistoryLines.{AsksOf, WritesOne, WritesOwn}
+use Rattle.guest_history.specs.HistoryLines.{AsksOf, WritesOne, WritesOwn, WritesTwo}
 use Rattle.guest_history.specs.declared.lines.HistoryLine.{HistoryLine}
-use Rattle.guest_history.specs.declared.lines.HistoryLine.TheVariants.{Back, BackGo, At, Plain}
+use Rattle.guest_history.specs.declared.lines.HistoryLine.TheVariants.{Back, BackGo, BackGoWithin, At, Plain}
 
 pub asks_own : (asked : HistoryLine) (line : List ℕ) → WritesOwn asked (words_of line) → AsksOf asked line
 asks_own (Back count) line writes = writes
 asks_own BackGo line writes = writes
+asks_own (BackGoWithin count) line writes = writes
 asks_own At line writes = writes
 asks_own (Plain asked) line writes = elim writes [ ]
 
 pub asks_nothing : (line : List ℕ) → ((asked : HistoryLine) → ¬ WritesOwn asked (words_of line)) → ((asked : DebugLine) → ¬ AsksFor Fuller asked line) → (asked : HistoryLine) → ¬ AsksOf asked line
 asks_nothing line own plain (Back count) asks = own (Back count) asks
 asks_nothing line own plain BackGo asks = own BackGo asks
+asks_nothing line own plain (BackGoWithin count) asks = own (BackGoWithin count) asks
 asks_nothing line own plain At asks = own At asks
 asks_nothing line own plain (Plain asked) asks = plain asked asks
 
@@ -32,6 +34,7 @@ none_longer name word first e = cc
 pub writes_one : (asked : HistoryLine) (name : List ℕ) (words : List (List ℕ)) → words ≡ name ∷ [] → WritesOne asked name → WritesOwn asked words
 writes_one (Back count) name words is writes = inl (is ∙ ap (λ n. n ∷ []) writes.0, writes.1)
 writes_one BackGo name words is writes = is ∙ ap (λ n. n ∷ []) writes
+writes_one (BackGoWithin count) name words is writes = elim writes [ ]
 writes_one At name words is writes = is ∙ ap (λ n. n ∷ []) writes
 writes_one (Plain asked) name words is writes = elim writes [ ]
 
@@ -41,6 +44,7 @@ none_of_one name words is none (Back count) writes = elim writes [
   | inr more ↦ none_longer name _ _ (sym is ∙ more.1)
 ]
 none_of_one name words is none BackGo writes = none BackGo (same_head name _ (sym is ∙ writes))
+none_of_one name words is none (BackGoWithin count) writes = none_longer name _ _ (sym is ∙ writes.1)
 none_of_one name words is none At writes = none At (same_head name _ (sym is ∙ writes))
 none_of_one name words is none (Plain asked) writes = elim writes [ ]
 
@@ -52,6 +56,7 @@ no_word word rest e = cc
 pub none_of_none : (words : List (List ℕ)) → words ≡ [] → (asked : HistoryLine) → ¬ WritesOwn asked words
 none_of_none words is (Back count) writes = elim writes [ inl one ↦ no_word _ _ (sym is ∙ one.0) | inr more ↦ no_word _ _ (sym is ∙ more.1) ]
 none_of_none words is BackGo writes = no_word _ _ (sym is ∙ writes)
+none_of_none words is (BackGoWithin count) writes = no_word _ _ (sym is ∙ writes.1)
 none_of_none words is At writes = no_word _ _ (sym is ∙ writes)
 none_of_none words is (Plain asked) writes = elim writes [ ]
 
@@ -69,15 +74,24 @@ names name first word other rest e = cc
 firsts : (name first word other : List ℕ) (rest : List (List ℕ)) → name ∷ first ∷ rest ≡ word ∷ other ∷ [] → first ≡ other
 firsts name first word other rest e = cc
 
+pub writes_two : (asked : HistoryLine) (name word : List ℕ) (words : List (List ℕ)) → words ≡ name ∷ word ∷ [] → WritesTwo asked name word → WritesOwn asked words
+writes_two (Back count) name word words is writes = inr (word, is ∙ ap (λ n. n ∷ word ∷ []) writes.0, writes.1)
+writes_two BackGo name word words is writes = elim writes [ ]
+writes_two (BackGoWithin count) name word words is writes = (word, is ∙ ap (λ n. n ∷ word ∷ []) writes.0, writes.1)
+writes_two At name word words is writes = elim writes [ ]
+writes_two (Plain asked) name word words is writes = elim writes [ ]
+
 -- another name, or no number
-pub none_of_two : (name first : List ℕ) (words rest : List (List ℕ)) → words ≡ name ∷ first ∷ rest → ((number : ℕ) → name ≡ codes "back" → ¬ Writes first number) → (asked : HistoryLine) → ¬ WritesOwn asked words
-none_of_two name first words rest is none (Back count) writes = elim writes [
-  | inl one ↦ none_fewer name first _ rest (sym is ∙ one.0)
-  | inr more ↦ none count (names name first _ _ rest (sym is ∙ more.1)) (subst (λ w. Writes w count) (sym (firsts name first _ _ rest (sym is ∙ more.1))) more.2)
+pub none_of_two : (name first : List ℕ) (words : List (List ℕ)) → words ≡ name ∷ first ∷ [] → ((asked : HistoryLine) → ¬ WritesTwo asked name first) → (asked : HistoryLine) → ¬ WritesOwn asked words
+none_of_two name first words is none (Back count) writes = elim writes [
+  | inl one ↦ none_fewer name first _ [] (sym is ∙ one.0)
+  | inr more ↦ none (Back count) (names name first _ _ [] (sym is ∙ more.1), subst (λ w. Writes w count) (sym (firsts name first _ _ [] (sym is ∙ more.1))) more.2)
 ]
-none_of_two name first words rest is none BackGo writes = none_fewer name first _ rest (sym is ∙ writes)
-none_of_two name first words rest is none At writes = none_fewer name first _ rest (sym is ∙ writes)
-none_of_two name first words rest is none (Plain asked) writes = elim writes [ ]
+none_of_two name first words is none BackGo writes = none_fewer name first _ [] (sym is ∙ writes)
+none_of_two name first words is none (BackGoWithin count) writes =
+    none (BackGoWithin count) (names name first _ _ [] (sym is ∙ writes.1), subst (λ w. Writes w count) (sym (firsts name first _ _ [] (sym is ∙ writes.1))) writes.2)
+none_of_two name first words is none At writes = none_fewer name first _ [] (sym is ∙ writes)
+none_of_two name first words is none (Plain asked) writes = elim writes [ ]
 
 pub none_of_many : (name first second : List ℕ) (words rest : List (List ℕ)) → words ≡ name ∷ first ∷ second ∷ rest → (asked : HistoryLine) → ¬ WritesOwn asked words
 none_of_many name first second words rest is (Back count) writes = elim writes [
@@ -85,5 +99,6 @@ none_of_many name first second words rest is (Back count) writes = elim writes [
   | inr more ↦ none_beyond name first second _ _ rest (sym is ∙ more.1)
 ]
 none_of_many name first second words rest is BackGo writes = none_fewer name first _ (second ∷ rest) (sym is ∙ writes)
+none_of_many name first second words rest is (BackGoWithin count) writes = none_beyond name first second _ _ rest (sym is ∙ writes.1)
 none_of_many name first second words rest is At writes = none_fewer name first _ (second ∷ rest) (sym is ∙ writes)
 none_of_many name first second words rest is (Plain asked) writes = elim writes [ ]

@@ -12,14 +12,16 @@ use Rattle.debug_session.specs.declared.reply.DebugReply.{DebugReply}
 use Rattle.debug_session.specs.declared.reply.DebugReply.TheVariants as debug
 use Rattle.guest_history.specs.declared.forward.Stop.{Stop}
 use Rattle.guest_history.specs.declared.lines.HistoryLine.{HistoryLine}
-use Rattle.guest_history.specs.declared.lines.HistoryLine.TheVariants.{Back, BackGo, At, Plain}
+use Rattle.guest_history.specs.declared.lines.HistoryLine.TheVariants.{Back, BackGo, BackGoWithin, At, Plain}
 use Rattle.guest_history.specs.declared.forward.Stepped.{Stepped}
 use Rattle.guest_history.specs.declared.forward.Stepped.TheVariants.{Ran, Refused, PastRecord, OtherHart}
 use Rattle.guest_history.specs.declared.history.History.{History}
+use Rattle.guest_history.specs.declared.history.Looked.{Looked}
+use Rattle.guest_history.specs.declared.history.Looked.TheVariants as looked
 use Rattle.guest_history.specs.declared.reply.HistoryReply.{HistoryReply}
 use Rattle.guest_history.specs.declared.reply.HistoryReply.TheVariants as reply
 use Rattle.guest_history.specs.Going.{lacks, shows, turn_of, GoesAlone, HasGone}
-use Rattle.guest_history.specs.Histories.{GoesBackBy, GoesBackTo, HasStepped, StopsBefore}
+use Rattle.guest_history.specs.Histories.{GoesBackBy, GoesBackTo, HasStepped, StopsBefore, StopsWithin}
 
 -- how many steps were done, of how many
 abbrev pub reply_at : History → HistoryReply
@@ -34,6 +36,15 @@ AnswersBack count old told new =
 abbrev pub AnswersBackGo : History → HistoryReply → History → Type 0
 AnswersBackGo old told new =
     (why : Option Why) × ((told ≡ reply.Met why new.done new.path.total) × (StopsBefore old why new × GoesBackTo new.done old new))
+
+-- the same of a bounded way back
+abbrev pub looked_reply : Looked → History → HistoryReply
+looked_reply (looked.Met why) new = reply.Met (Some why) new.done new.path.total
+looked_reply looked.Limit new = reply.NoneMet new.done new.path.total
+looked_reply looked.Beginning new = reply.Met None new.done new.path.total
+
+abbrev pub AnswersBackWithin : ℕ → History → HistoryReply → History → Type 0
+AnswersBackWithin count old told new = (found : Looked) × ((told ≡ looked_reply found new) × (StopsWithin count old found new × GoesBackTo new.done old new))
 
 -- what is replied where this has come of a step
 abbrev pub reply_of : Stepped → HistoryReply
@@ -120,5 +131,6 @@ AnswersPlain line.Quit old told new = AnswersLook line.Quit old told new
 abbrev pub AnswersLine : HistoryLine → History → Option HistoryReply → History → Type 0
 AnswersLine (Back count) old told new = IsSomeAnd told (λ told. AnswersBack count old told new)
 AnswersLine BackGo old told new = IsSomeAnd told (λ told. AnswersBackGo old told new)
+AnswersLine (BackGoWithin count) old told new = IsSomeAnd told (λ told. AnswersBackWithin count old told new)
 AnswersLine At old told new = IsSomeAnd told (λ told. (told ≡ reply_at new) × (new ≡ old))
 AnswersLine (Plain asked) old told new = AnswersPlain asked old told new

@@ -99,6 +99,11 @@ stops_by points path first from limit count =
 abbrev pub stops_after : ℕ → History → ℕ → Option Why
 stops_after limit old count = stops_by old.debugger.points old.path.stretches.items (beginning old.program) old.done limit count
 
+-- the hart of the last of so many steps of the record; of none, the one that has the next
+abbrev pub last_by : ℕ → History → ℕ
+last_by zero old = turn_of old
+last_by (suc count) old = next_hart (whose_at old.path.stretches.items (old.done + count)) 0
+
 -- It went on by steps of the record to the first reason to stop; or to the end of the record, where there is none.
 pub record GoesByRecord (limit : ℕ) (old : History) (stop : Stop) (new : History) : Type 0 where
   pub done_is : new.done ≡ old.done + stop.steps
@@ -106,6 +111,7 @@ pub record GoesByRecord (limit : ℕ) (old : History) (stop : Stop) (new : Histo
   pub before : (i : ℕ) → i < stop.steps → stops_after limit old i ≡ None
   pub why_is : stops_after limit old stop.steps ≡ stop.why
   pub ends : stop.why ≡ None → new.done ≡ old.path.total
+  pub last_is : stop.last ≡ last_by stop.steps old
 
 -- it went on, up to so many steps, to the first reason to stop
 abbrev pub HasGone : ℕ → History → Stop → History → Type 0

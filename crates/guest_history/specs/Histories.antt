@@ -1,24 +1,30 @@
 -- A debugger that knows its steps: where it stands, and where it goes back to.
-use Rattle.std.specs.Prelude.{◌≡◌, ℕ, ◌+◌, ◌-◌, ◌<◌, ◌≤◌, Bool, true, false, List, [], ◌∷◌, Option, Some, None}
+use Rattle.std.specs.Prelude.{◌≡◌, ℕ, zero, suc, ◌+◌, ◌-◌, ◌^◌, ◌<◌, ◌≤◌, ⊤, nat_le, Bool, true, false, List, [], ◌∷◌, Option, Some, None, if◌then◌else◌}
 use Rattle.flat_machine.specs.Process.{Process}
 use Rattle.debug_core.specs.Debugging.{DebuggerValue}
 use Rattle.debug_core.specs.Points.{ArePoints}
 use Rattle.debug_core.specs.declared.point.Why.{Why}
 use Rattle.debug_session.specs.declared.lines.DebugLine.{DebugLine}
 use Rattle.debug_session.specs.declared.lines.DebugLine.TheVariants.{Break, Watch, Remove, Step, Go, Regs, Mem, Run, GoHart, End, Live, Quit}
+use Rattle.flat_machine.specs.declared.schedule.Turn.{Turn}
+use Rattle.run_paths.specs.declared.fault.RunFault.{RunFault}
+use Rattle.run_paths.specs.declared.fault.RunFault.TheVariants.{NoMemory, OtherRun}
 use Rattle.run_paths.specs.declared.path.Stretch.{Stretch}
 use Rattle.run_paths.specs.declared.path.Whose.{Whose}
 use Rattle.run_paths.specs.declared.path.Whose.TheVariants.{Hart}
 use Rattle.run_paths.specs.declared.path.Path.{Path}
 use Rattle.run_paths.specs.declared.running.Place.{Place}
+use Rattle.run_paths.specs.declared.searching.Met.{Met}
 use Rattle.run_paths.specs.declared.program.Program.{Program}
 use Rattle.guest_history.specs.declared.checkpoints.Checkpoint.{Checkpoint}
 use Rattle.guest_history.specs.declared.history.History.{History}
+use Rattle.guest_history.specs.declared.history.Looked.{Looked}
+use Rattle.guest_history.specs.declared.history.Looked.TheVariants as looked
 use Rattle.guest_history.specs.declared.forward.Stepped.{Stepped}
 use Rattle.guest_history.specs.declared.forward.Stepped.TheVariants.{Ran, Refused, PastRecord, OtherHart}
 use Rattle.run_paths.specs.Extending.{IsCounted}
 use Rattle.run_paths.specs.Meeting.{met_at}
-use Rattle.run_paths.specs.Paths.{along, step_of, whose_at, HasTurn}
+use Rattle.run_paths.specs.Paths.{along, path_of, step_of, steps_of, whose_at, HasTurn}
 use Rattle.guest_history.specs.Checkpoints.{beginning, AreKept}
 
 -- the process of a debugger, and whose turn it has
@@ -41,6 +47,11 @@ pub record Begins (program : Program) (path : List Stretch) (is_recorded : Bool)
   pub path_is : history.path.stretches.items ≡ path
   pub recorded : history.is_recorded ≡ is_recorded
   pub none : history.done ≡ 0
+
+-- why no debugger begins by turns: memory is wanting, or they have too many steps
+abbrev pub RefusesTurns : List Turn → RunFault → Type 0
+RefusesTurns turns NoMemory = ⊤
+RefusesTurns turns OtherRun = 2 ^ 64 ≤ steps_of (path_of turns)
 
 -- nothing has changed but the checkpoints
 abbrev pub Keeps : History → History → Type 0
@@ -69,6 +80,23 @@ abbrev pub StopsBefore : History → Option Why → History → Type 0
 StopsBefore old None new = (new.done ≡ 0) × ((i : ℕ) → i < old.done → stops_at old i ≡ None)
 StopsBefore old (Some why) new =
     (new.done < old.done) × ((stops_at old new.done ≡ Some why) × ((i : ℕ) → new.done < i → i < old.done → stops_at old i ≡ None))
+
+-- The same, no more than so many steps back: where a run stops nowhere among these, it stands before them, at a limit or at the beginning.
+abbrev pub StopsWithin : ℕ → History → Looked → History → Type 0
+StopsWithin count old (looked.Met why) new = (old.done ≤ new.done + count) × StopsBefore old (Some why) new
+StopsWithin count old looked.Limit new =
+    (0 < new.done) × ((new.done + count ≡ old.done) × ((i : ℕ) → new.done ≤ i → i < old.done → stops_at old i ≡ None))
+StopsWithin count old looked.Beginning new = (old.done ≤ count) × StopsBefore old None new
+
+-- what was met, unless that was before so many steps
+abbrev pub not_below : ℕ → Option Met → Option Met
+not_below low None = None
+not_below low (Some met) = if nat_le low met.steps then Some met else None
+
+-- what a look comes to that has met nothing after so many steps
+abbrev pub ends_look : ℕ → Looked
+ends_look zero = looked.Beginning
+ends_look (suc low) = looked.Limit
 
 -- a process behind no more than so many of the known steps
 pub record IsNear (history : History) (step : ℕ) (near : Checkpoint) : Type 0 where

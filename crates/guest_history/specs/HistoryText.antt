@@ -5,7 +5,7 @@ use Rattle.debug_core.specs.declared.point.Why.{Why}
 use Rattle.debug_core.specs.declared.point.Why.TheVariants as why
 use Rattle.debug_session.specs.ReplyText.{reply_text}
 use Rattle.guest_history.specs.declared.reply.HistoryReply.{HistoryReply}
-use Rattle.guest_history.specs.declared.reply.HistoryReply.TheVariants.{Plain, At, Met, RecordEnds, ToldRecordEnds, PastRecord, OtherHart, NoStepBefore}
+use Rattle.guest_history.specs.declared.reply.HistoryReply.TheVariants.{Plain, At, Met, NoneMet, RecordEnds, ToldRecordEnds, PastRecord, OtherHart, NoStepBefore}
 
 -- the point that was met on the way back, or the beginning
 abbrev pub met_text : Option Why → List ℕ
@@ -21,6 +21,7 @@ abbrev pub history_text : HistoryReply → List ℕ
 history_text (Plain told) = reply_text told
 history_text (At done total) = codes "at " ++ decimal done ++ codes " of " ++ decimal total
 history_text (Met met done total) = met_text met ++ codes " at " ++ decimal done ++ codes " of " ++ decimal total
+history_text (NoneMet done total) = codes "limit at " ++ decimal done ++ codes " of " ++ decimal total
 history_text (RecordEnds steps) = codes "record-end after " ++ decimal steps
 history_text (ToldRecordEnds last turn steps) =
     codes "record-end last " ++ decimal last ++ codes " turn " ++ decimal turn ++ codes " after " ++ decimal steps

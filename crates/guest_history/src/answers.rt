@@ -3,12 +3,14 @@
 ghost use Rattle.std.specs.Prelude.{◌≡◌, false, IfOk, OnOk, slice_set};
 ghost use Rattle.debug_session.specs.Answers.{AnswersBreak, AnswersRemove, AnswersWatch};
 ghost use Rattle.guest_history.specs.Answered.{
+  looked_reply,
   reply_at,
   reply_of,
   stop_reply,
   told_reply,
   AnswersBack,
   AnswersBackGo,
+  AnswersBackWithin,
   AnswersGo,
   AnswersGoHart,
   AnswersLine,
@@ -20,9 +22,10 @@ ghost use Rattle.guest_history.specs.Answered.{
 };
 ghost use Rattle.guest_history.specs.Going.{turn_of};
 ghost use Rattle.guest_history.specs.Histories.{IsSameRun, Looks, Stands};
+ghost use Rattle.guest_history.specs.declared.history.History.{History};
 
 use crate::forward::Stepped;
-use crate::history::History;
+use crate::history::{History, Looked};
 use crate::lines::HistoryLine;
 use crate::reply::HistoryReply;
 use debug_core::{DebugRefusal, DebugStep, MOST_POINTS, Point, Why};
@@ -45,6 +48,9 @@ impl History {
         match line {
             HistoryLine::Back { count } => Ok(Some(self.answer_back(alloc, count)?)),
             HistoryLine::BackGo => Ok(Some(self.answer_back_go(alloc)?)),
+            HistoryLine::BackGoWithin { count } => {
+                Ok(Some(self.answer_back_within(alloc, count)?))
+            }
             HistoryLine::At => Ok(Some(self.answer_at())),
             HistoryLine::Plain(line) => self.answer_plain(alloc, line),
         }
@@ -77,6 +83,17 @@ impl History {
             done: self.done,
             total: self.path.total,
         })
+    }
+
+    #[tactic(auto, using(crate::proofs::SameRuns::same_back))]
+    fn answer_back_within(&mut self, alloc: Global, count: u32) -> Result<HistoryReply, RunFault>
+        requires stands { Stands self.old }
+        ensures stands { OnOk result (Stands self.new) }
+        ensures same { OnOk result (IsSameRun self.old self.new) }
+        ensures stop { IfOk result (λ reply. AnswersBackWithin count self.old reply self.new) }
+    {
+        let looked = self.back_go_within(alloc, u64::from(count))?;
+        Ok(looked_reply(looked, self.done, self.path.total))
     }
 
     fn answer_at(&self) -> HistoryReply
@@ -232,6 +249,26 @@ impl History {
             Some(stop) => Ok(told_reply(stop.why, stop.last, self.turn(), stop.steps)),
             None => Ok(HistoryReply::Plain(DebugReply::Refused(DebugRefusal::NoHart))),
         }
+    }
+}
+
+/// What is replied where a bounded way back has led to so many steps, of how many.
+fn looked_reply(looked: Looked, done: u64, total: u64) -> HistoryReply
+    ensures { (history : History) → history.done ≡ done → history.path.total ≡ total →
+        result ≡ looked_reply looked history }
+{
+    match looked {
+        Looked::Met(why) => HistoryReply::Met {
+            why: Some(why),
+            done,
+            total,
+        },
+        Looked::Limit => HistoryReply::NoneMet { done, total },
+        Looked::Beginning => HistoryReply::Met {
+            why: None,
+            done,
+            total,
+        },
     }
 }
 

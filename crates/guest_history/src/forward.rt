@@ -180,9 +180,7 @@ impl History {
         let mut taken: u64 = 0;
         'stretches: for stretch in ahead.as_slice() {
             let (why, steps) = self.go_turn(alloc, *stretch, left)?;
-            if steps > 0 {
-                last = hart_of_turn(*stretch);
-            }
+            last = last_of(*stretch, steps, last);
             left -= steps;
             taken += steps;
             if stops(why, steps, *stretch) {
@@ -264,12 +262,15 @@ fn is_of(step: Option<Whose>, hart: u32) -> bool
     }
 }
 
-/// The hart of a turn.
-fn hart_of_turn(stretch: Stretch) -> u32 {
-    match stretch.whose {
-        Whose::Hart(hart) => hart,
-        Whose::ByTurns => 0,
+/// The hart of the last step after so many of a turn; before it that was another one.
+fn last_of(stretch: Stretch, steps: u64, before: u32) -> u32
+    ensures some { 0 < steps → result ≡ next_hart (Some stretch.whose) 0 }
+    ensures none { steps ≡ 0 → result ≡ before }
+{
+    if steps == 0 {
+        return before;
     }
+    next_hart(Some(stretch.whose), 0)
 }
 
 /// Whether a run by a record stops, of which a turn came to this: at a break stands the hart that has the next step.

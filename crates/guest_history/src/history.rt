@@ -1,11 +1,14 @@
 //! A debugger that knows its steps.
 
-ghost use Rattle.std.specs.Prelude.{◌≡◌, ◌≤◌, ◌<◌, ◌-◌, ◌+◌, ◌^◌, [], Some, None, true, false, replicate, IfOk, IfSome, OnOk};
+ghost use Rattle.std.specs.Prelude.{◌≡◌, ◌≤◌, ◌<◌, ◌-◌, ◌+◌, ◌^◌, [], Some, None, true, false, replicate, IfErr, IfOk, IfSome, OnOk};
 ghost use Rattle.run_paths.specs.Extending.{IsCounted};
 ghost use Rattle.run_paths.specs.Meeting.{shifted, LastMet};
 ghost use Rattle.run_paths.specs.Paths.{along, hart_of, path_of, step_of, HasTurn};
+ghost use Rattle.run_paths.specs.declared.fault.RunFault.TheVariants as fault;
 ghost use Rattle.guest_history.specs.Checkpoints.{beginning};
 ghost use Rattle.guest_history.specs.Histories.{place_of, stops_at, Begins, IsNear, Keeps, Moves};
+ghost use Rattle.guest_history.specs.Histories.{RefusesTurns};
+ghost use Rattle.guest_history.specs.Histories.{ends_look, not_below, StopsWithin};
 ghost use Rattle.guest_history.specs.Histories.{GoesBackBy, GoesBackTo, Stands, StopsBefore};
 
 use crate::checkpoints::{Checkpoint, Checkpoints};
@@ -23,6 +26,17 @@ const FIRST_LOOK: u64 = 1 << 20;
 
 /// Looks that are longer than this one grow no more.
 const MOST_LOOKED: u64 = 1 << 56;
+
+/// Where a bounded way back has led.
+#[derive(Clone, Copy, Debug, PartialEq, Eq)]
+pub enum Looked {
+    /// To a point.
+    Met(Why),
+    /// Over as many steps as were allowed.
+    Limit,
+    /// To the beginning.
+    Beginning,
+}
 
 /// A debugger of a program that knows its steps, so that it can go back.
 #[derive(Drop)]
@@ -43,7 +57,8 @@ pub struct History {
 impl History {
     /// A debugger of a program whose harts take turns.
     pub fn new(alloc: Global, program: Program) -> Result<Self, RunFault>
-        ensures { IfOk result (Begins program [] false) }
+        ensures begins { IfOk result (Begins program [] false) }
+        ensures refused { IfErr result (λ why. why ≡ fault.NoMemory) }
     {
         let path = Path {
             stretches: Vec::new(alloc),
@@ -52,9 +67,10 @@ impl History {
         History::begin(alloc, program, path, false)
     }
 
-    /// A debugger of a program whose harts take these turns.
+    /// A debugger of a program whose harts take these turns. Their steps are another run's where they are 2^64 or more.
     pub fn recorded(alloc: Global, program: Program, turns: &[Turn]) -> Result<Self, RunFault>
-        ensures { IfOk result (Begins program (path_of turns.now) true) }
+        ensures begins { IfOk result (Begins program (path_of turns.now) true) }
+        ensures refused { IfErr result (RefusesTurns turns.now) }
     {
         let stretches = path_of(alloc, turns)?;
         let Some(total) = count_of(stretches.as_slice()) else {
@@ -71,7 +87,8 @@ impl History {
         is_recorded: bool,
     ) -> Result<Self, RunFault>
         requires counted { IsCounted path }
-        ensures { IfOk result (Begins program path.stretches.items is_recorded) }
+        ensures begins { IfOk result (Begins program path.stretches.items is_recorded) }
+        ensures refused { IfErr result (λ why. why ≡ fault.NoMemory) }
     {
         let debugger = Debugger::new(program.begin(alloc)?);
         Ok(History {
@@ -114,6 +131,42 @@ impl History {
                 Ok(None)
             }
         }
+    }
+
+    /// The same, but no more than so many steps back.
+    #[tactic(auto, using(crate::proofs::Stopping::stops_within, crate::proofs::Stopping::none_within))]
+    pub fn back_go_within(&mut self, alloc: Global, count: u64) -> Result<Looked, RunFault>
+        requires stands { Stands self.old }
+        ensures back { OnOk result (GoesBackTo self.new.done self.old self.new) }
+        ensures stop { IfOk result (λ looked. StopsWithin count self.old looked self.new) }
+    {
+        let low = self.done.saturating_sub(count);
+        match self.last_met_from(alloc, low)? {
+            Some(met) => {
+                self.stand_at(alloc, met.steps)?;
+                Ok(Looked::Met(met.why))
+            }
+            None => {
+                self.stand_at(alloc, low)?;
+                Ok(ends_look(low))
+            }
+        }
+    }
+
+    /// The last place before this one where a point would have stopped it, but for the beginning, and for those before so many steps.
+    #[tactic(auto, using(crate::proofs::Stopping::low_met, crate::proofs::Stopping::low_above))]
+    fn last_met_from(&self, alloc: Global, low: u64) -> Result<Option<Met>, RunFault>
+        requires stands { Stands self.now }
+        requires low { low ≤ self.now.done }
+        ensures last { IfOk result (LastMet (stops_at self.now) (low - 1) self.now.done) }
+        ensures above { IfOk result (λ met. IfSome met (λ met. low ≤ met.steps)) }
+    {
+        let from = low.saturating_sub(1);
+        if from >= self.done {
+            return Ok(None);
+        }
+        let met = self.last_met_between(alloc, from, self.done)?;
+        Ok(not_below(met, low))
     }
 
     /// The last place before this one where a point would have stopped it, but for the beginning.
@@ -266,6 +319,27 @@ fn behind(met: Option<Met>, before: u64) -> Option<Met>
             why: met.why,
         }),
         None => None,
+    }
+}
+
+/// What was met, unless that was before so many steps.
+fn not_below(met: Option<Met>, low: u64) -> Option<Met>
+    ensures { result ≡ not_below low met }
+{
+    match met {
+        Some(met) if met.steps >= low => Some(met),
+        _ => None,
+    }
+}
+
+/// What a look comes to that has met nothing after so many steps.
+fn ends_look(low: u64) -> Looked
+    ensures { result ≡ ends_look low }
+{
+    if low == 0 {
+        Looked::Beginning
+    } else {
+        Looked::Limit
     }
 }
 

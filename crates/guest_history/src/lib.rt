@@ -16,4 +16,4 @@ mod turn;
 
 pub use conversation::converse_back;
 pub use fault::HistoryFault;
-pub use history::History;
+pub use history::{History, Looked};

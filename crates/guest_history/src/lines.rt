@@ -3,7 +3,7 @@
 ghost use Rattle.std.specs.Prelude.{◌≡◌, IfOk, IfSome, IsErr, None, Ok};
 ghost use Rattle.text_lines.specs.Text.{words_of};
 ghost use Rattle.debug_session.specs.Conversation.{IsRemark};
-ghost use Rattle.guest_history.specs.HistoryLines.{AsksOf, WritesOne, WritesOwn};
+ghost use Rattle.guest_history.specs.HistoryLines.{AsksOf, WritesOne, WritesOwn, WritesTwo};
 ghost use Rattle.guest_history.specs.declared.lines.HistoryLine.{HistoryLine};
 
 use debug_session::{DebugLine, Dialect, debug_line};
@@ -16,6 +16,8 @@ pub(crate) enum HistoryLine {
     Back { count: u32 },
     /// Go back to the last place where a point would have stopped.
     BackGo,
+    /// The same, but no more than so many steps back.
+    BackGoWithin { count: u32 },
     /// Show how many steps were done.
     At,
     /// What any debugger does.
@@ -41,7 +43,7 @@ pub(crate) fn history_line(line: &[u8]) -> Result<Option<HistoryLine>, BadLine>
 }
 
 /// What a line asks for that other debuggers don't have.
-#[tactic(auto, using(crate::proofs::OwnLines::writes_one, crate::proofs::OwnLines::none_of_one, crate::proofs::OwnLines::none_of_none, crate::proofs::OwnLines::none_of_two, crate::proofs::OwnLines::none_of_many))]
+#[tactic(auto, using(crate::proofs::OwnLines::writes_one, crate::proofs::OwnLines::none_of_one, crate::proofs::OwnLines::none_of_none, crate::proofs::OwnLines::writes_two, crate::proofs::OwnLines::none_of_two, crate::proofs::OwnLines::none_of_many))]
 fn own_line(line: &[u8]) -> Option<HistoryLine>
     ensures found { IfSome result (λ asked. WritesOwn asked (words_of line.now)) }
     ensures none { result ≡ None → (asked : HistoryLine) → ¬ WritesOwn asked (words_of line.now) }
@@ -50,14 +52,25 @@ fn own_line(line: &[u8]) -> Option<HistoryLine>
     let Some((word, rest)) = next_word(rest) else {
         return own_word(name);
     };
-    if name != b"back".as_slice() {
-        return None;
-    }
     if next_word(rest).is_some() {
         return None;
     }
+    own_words(name, word)
+}
+
+/// The same of a word and a number.
+fn own_words(name: &[u8], word: &[u8]) -> Option<HistoryLine>
+    ensures found { IfSome result (λ asked. WritesTwo asked name.now word.now) }
+    ensures none { result ≡ None → (asked : HistoryLine) → ¬ WritesTwo asked name.now word.now }
+{
     let count = word_number(word)?;
-    Some(HistoryLine::Back { count })
+    if name == b"back".as_slice() {
+        Some(HistoryLine::Back { count })
+    } else if name == b"back-go".as_slice() {
+        Some(HistoryLine::BackGoWithin { count })
+    } else {
+        None
+    }
 }
 
 /// The same of one word.

@@ -20,6 +20,11 @@ pub(crate) enum HistoryReply {
         done: u64,
         total: u64,
     },
+    /// The same, where no point was met among as many steps as were allowed.
+    NoneMet {
+        done: u64,
+        total: u64,
+    },
     /// The record has no more steps, behind so many of the run.
     RecordEnds {
         steps: u64,
@@ -52,6 +57,7 @@ impl fmt::Display for HistoryReply {
                 let met = MetPoint(*why);
                 write!(f, "{met} at {done} of {total}")
             }
+            HistoryReply::NoneMet { done, total } => write!(f, "limit at {done} of {total}"),
             HistoryReply::RecordEnds { steps } => write!(f, "record-end after {steps}"),
             HistoryReply::ToldRecordEnds { last, turn, steps } => {
                 write!(f, "record-end last {last} turn {turn} after {steps}")

@@ -1,6 +1,7 @@
 //! Turns that are chosen, one after another.
 
-ghost use Rattle.std.specs.Prelude.{◌≡◌};
+ghost use Rattle.std.specs.Prelude.{◌≡◌, ◌<◌, true};
+ghost use Rattle.flat_machine.specs.Process.{is_live};
 
 use crate::priorities::Priorities;
 use crate::random_turns::RandomTurns;
@@ -30,8 +31,12 @@ impl Chooser {
     pub(crate) fn new(alloc: Global, way: Way, seed: u64) -> Result<Self, AllocError> {
         match way {
             Way::Turns => Ok(Chooser::Turns(RandomTurns::new(seed))),
-            Way::Priorities { depth, steps } => {
-                let made = Priorities::new(alloc, depth, steps, seed)?;
+            Way::Priorities {
+                depth,
+                steps,
+                patience,
+            } => {
+                let made = Priorities::new(alloc, depth, steps, patience, seed)?;
                 Ok(Chooser::Priorities(made))
             }
         }
@@ -40,10 +45,20 @@ impl Chooser {
     /// The next turn of a process, of which so many steps are done.
     pub(crate) fn choose(&mut self, process: &mut FlatProcess, done: u64) -> ChosenTurn
         ensures same { process.new ≡ process.old }
+        ensures live { is_live result.hart process.old ≡ true }
+        ensures some { 0 < result.most }
     {
         match self {
             Chooser::Turns(turns) => turns.choose(process),
             Chooser::Priorities(priorities) => priorities.choose(process, done),
+        }
+    }
+
+    /// Takes it that a hart waits, where so many steps are done.
+    pub(crate) fn put_back(&mut self, hart: u32, done: u64) {
+        match self {
+            Chooser::Turns(_) => {}
+            Chooser::Priorities(priorities) => priorities.put_back(hart, done),
         }
     }
 }

@@ -8,10 +8,10 @@ mod live_harts;
 mod priorities;
 mod random_numbers;
 mod random_turns;
-mod usual_run;
+mod run_size;
 mod waiting;
 mod way;
 
 pub use explored::explore_run;
-pub use usual_run::count_usual_steps;
+pub use run_size::{RunSize, measure_runs};
 pub use way::Way;

@@ -1,6 +1,7 @@
 //! The harts of a process that are live.
 
-ghost use Rattle.std.specs.Prelude.{◌≤◌, ◌<◌};
+ghost use Rattle.std.specs.Prelude.{◌≡◌, ◌≤◌, ◌<◌, true};
+ghost use Rattle.flat_machine.specs.Process.{is_live};
 
 use flat_machine::FlatProcess;
 
@@ -20,8 +21,10 @@ pub(crate) fn count_live(process: &FlatProcess) -> u32
     count
 }
 
-/// The live hart before which so many are live, or hart 0.
-pub(crate) fn live_hart(process: &FlatProcess, place: u32) -> u32 {
+/// The live hart before which so many are live, or the first one.
+pub(crate) fn live_hart(process: &FlatProcess, place: u32) -> u32
+    ensures { is_live result process.now ≡ true }
+{
     let mut left = place;
     for hart in 0..HARTS {
         if process.is_live(hart) {
@@ -31,7 +34,7 @@ pub(crate) fn live_hart(process: &FlatProcess, place: u32) -> u32 {
             left -= 1;
         }
     }
-    0
+    process.turn_after(HARTS - 1)
 }
 
 /// How many harts were started.

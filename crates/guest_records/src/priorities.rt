@@ -1,7 +1,8 @@
 //! Turns by random priorities, which change at random steps: the scheduler of Burckhardt, Kothari, Musuvathi and Nagarakatte ("A randomized
 //! scheduler with probabilistic guarantees of finding bugs", 2010).
 
-ghost use Rattle.std.specs.Prelude.{◌≡◌, ◌<◌, ◌≤◌};
+ghost use Rattle.std.specs.Prelude.{◌≡◌, ◌<◌, ◌≤◌, true};
+ghost use Rattle.flat_machine.specs.Process.{is_live};
 
 use crate::chosen_turn::ChosenTurn;
 use crate::live_harts::HARTS;
@@ -31,7 +32,7 @@ const CHANGED: u64 = 0x1_0000_0000;
 const WAITING: u64 = 0xFFFF_FFFF;
 
 /// The live hart of the highest priority runs. Before chosen steps the hart that is to run gets a priority below all first ones. A hart that
-/// waits gets one below all others: it yields, or took more steps in a row than the whole run should have.
+/// waits gets one below all others: it yields, goes round a loop that changes nothing, or took more steps in a row than patience has.
 #[derive(Debug, Drop)]
 pub(crate) struct Priorities {
     of_harts: [u64; 8],
@@ -40,7 +41,7 @@ pub(crate) struct Priorities {
     /// The priority of the next hart that waits.
     lowest: u64,
     /// The most steps of a hart in a row.
-    longest: u64,
+    patience: u64,
     /// Whose turn it is, and behind how many steps it began.
     hart: u32,
     begun: u64,
@@ -52,20 +53,21 @@ impl Priorities {
         alloc: Global,
         depth: u32,
         steps: u64,
+        patience: u64,
         seed: u64,
     ) -> Result<Self, AllocError> {
         let mut generator = Pcg32::new(seed, 1);
         let of_harts = shuffled(&mut generator);
-        let longest = steps.max(1);
+        let steps = steps.max(1);
         let mut changes = Vec::new(alloc);
         for _ in 1..depth {
-            changes.push(long_below(&mut generator, longest))?;
+            changes.push(long_below(&mut generator, steps))?;
         }
         Ok(Priorities {
             of_harts,
             changes,
             lowest: WAITING,
-            longest,
+            patience,
             hart: 0,
             begun: 0,
         })
@@ -74,6 +76,8 @@ impl Priorities {
     /// The next turn of a process, of which so many steps are done.
     pub(crate) fn choose(&mut self, process: &mut FlatProcess, done: u64) -> ChosenTurn
         ensures same { process.new ≡ process.old }
+        ensures live { is_live result.hart process.old ≡ true }
+        ensures some { 0 < result.most }
     {
         self.change(process, done);
         let hart = self.next_hart(process, done);
@@ -105,13 +109,15 @@ impl Priorities {
     }
 
     /// The hart whose turn it is: one that took too many steps in a row is put back.
-    fn next_hart(&mut self, process: &FlatProcess, done: u64) -> u32 {
+    fn next_hart(&mut self, process: &FlatProcess, done: u64) -> u32
+        ensures { is_live result process.now ≡ true }
+    {
         let hart = highest(&self.of_harts, process);
         if hart != self.hart {
             self.begin(hart, done);
             return hart;
         }
-        if done.saturating_sub(self.begun) < self.longest {
+        if done.saturating_sub(self.begun) < self.patience {
             return hart;
         }
         self.put_back(hart, done);
@@ -126,7 +132,7 @@ impl Priorities {
     }
 
     /// Gives a hart a priority below all others.
-    fn put_back(&mut self, hart: u32, done: u64) {
+    pub(crate) fn put_back(&mut self, hart: u32, done: u64) {
         give(&mut self.of_harts, hart, self.lowest);
         self.lowest = self.lowest.saturating_sub(1);
         self.begun = done;
@@ -137,7 +143,7 @@ impl Priorities {
         ensures { 0 < result }
     {
         let row = done.saturating_sub(self.begun);
-        let mut least = self.longest.saturating_sub(row);
+        let mut least = self.patience.saturating_sub(row);
         for behind in self.changes.as_slice() {
             if *behind > done {
                 least = least.min(*behind - done);
@@ -177,11 +183,13 @@ fn give(of_harts: &mut [u64; 8], hart: u32, priority: u64) {
     }
 }
 
-/// The live hart of the highest priority, or hart 0.
-fn highest(of_harts: &[u64; 8], process: &FlatProcess) -> u32 {
-    let mut found = 0u32;
+/// The live hart of the highest priority.
+fn highest(of_harts: &[u64; 8], process: &FlatProcess) -> u32
+    ensures { is_live result process.now ≡ true }
+{
+    let mut found = process.turn_after(HARTS - 1);
     let mut most = 0u64;
-    for hart in 0..HARTS {
+    'harts: for hart in 0..HARTS {
         let priority = of_harts[hart as usize];
         if priority >= most && process.is_live(hart) {
             found = hart;

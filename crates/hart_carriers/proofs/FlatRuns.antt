@@ -1,4 +1,4 @@
--- What a process has come to, as it is told, is what a flat run comes to.
+-- What is reported of a process is what a flat run comes to.
 use Rattle.std.proofs.Common.{◌≡◌, ℕ, Bool, true, false, List, length, ap, sym, ◌∙◌}
 use Rattle.std.specs.Bool.{OnTrue}
 use Rattle.elf_image.specs.Start.{Start}
@@ -17,7 +17,7 @@ on_true true P holds is = holds
 on_true false P holds is = absurd (cc)
 
 module _ {S : Type 0} (held : S → List ℕ) where
-  -- what is told of a process that stands for a flat run, which was started from this
+  -- what is reported of a process that stands for a flat run, which was started from this
   pub stands_for_run : (start : Start) (space : SpaceValue S) (line : Told) → StandsFor held space → start.image ≡ space.image → start.input ≡ space.input → line ≡ come_to space → StandsForRun start line
   stands_for_run start space line stands image input is =
       let turns : line.turns ≡ space.schedule = ap (λ (t : Told). t.turns) is in

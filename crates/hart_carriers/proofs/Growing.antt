@@ -1,4 +1,4 @@
--- Processes are told one after another.
+-- Processes are reported one after another.
 use Rattle.std.proofs.Common.{◌≡◌, ℕ, zero, suc, ◌<◌, ◌≤◌, ◌++◌, ◌&&◌, [], ◌∷◌, Bool, true, false, List, Vec, length, map, Some, slice_get, refl, sym, ap, ◌∙◌, subst, get_or, ⊎_elim, arith, length-append, eq-or-lt_of_le}
 use Rattle.std.proofs.lemmas.List.{length-map}
 use Rattle.std.proofs.lemmas.Option.{slice_get_within, slice_get_read}
@@ -21,7 +21,7 @@ module _ {A : Type 0} where
   get_last [] y = refl
   get_last (x ∷ xs) y = get_last xs y
 
-  map_push : {B : Type 0} (f : A → B) (xs : List A) (x : A) → map f (xs ++ x ∷ []) ≡ map f xs ++ f x ∷ []
+  pub map_push : {B : Type 0} (f : A → B) (xs : List A) (x : A) → map f (xs ++ x ∷ []) ≡ map f xs ++ f x ∷ []
   map_push f [] x = refl
   map_push f (z ∷ zs) x = ap (λ l. f z ∷ l) (map_push f zs x)
 
@@ -34,12 +34,6 @@ has_before : (start : Start) (number : ℕ) (xs : List Told) (y : Told) → HasL
 has_before start number xs y has = record { line = has.line; found = get_before xs y number has.line has.found; stands = has.stands }
 
 module _ {Z : Type 0} (honest : Type 0) (handed : List (ImageContent × Vec ℕ Z)) where
-  pub told_none : (so_far : so.Told) → so_far.processes.items ≡ [] → so_far.published.items ≡ [] → ToldSoFar honest handed so_far
-  told_none so_far none blank = record {
-    stands = λ h s number given small. absurd (omega (arith, small, ap (λ (l : List ProcessReport). length l) none));
-    last = blank ∙ sym (ap (map counts_of) none);
-  }
-
   grown : (before started : Bool) (old : List ProcessReport) (report : ProcessReport)
       → (honest → before ≡ true → (number : ℕ) (given : ImageContent × Vec ℕ Z) → number < length old → slice_get handed number ≡ Some given → HasLine (start_of given.0 given.1.items) number (map told old))
       → (honest → started ≡ true → (given : ImageContent × Vec ℕ Z) → slice_get handed (length old) ≡ Some given → StandsForRun (start_of given.0 given.1.items) (told report))
@@ -71,13 +65,16 @@ module _ {Z : Type 0} (honest : Type 0) (handed : List (ImageContent × Vec ℕ 
         ∙ sym (map_push counts_of old.processes.items adds.report) ∙ sym (ap (map counts_of) adds.added);
   }
 
-  -- all are told where there is one for each
+  -- each line says what a process has come to, where all were started from what was handed in
+  pub comes_more : {R : Type 0} (come : R → Told) (yielded : List R) (ran : R) (old new : so.Told) → Adds honest handed old new
+      → map told new.processes.items ≡ map told old.processes.items ++ come ran ∷ [] → (old.started ≡ true → map told old.processes.items ≡ map come yielded)
+      → new.started ≡ true → map told new.processes.items ≡ map come (yielded ++ ran ∷ [])
+  comes_more come yielded ran old new adds grows so_far all =
+      grows ∙ ap (λ l. l ++ come ran ∷ []) (so_far (both_true old.started adds.started (sym adds.all ∙ all)).0) ∙ sym (map_push come yielded ran)
+
+  -- all are reported where there is one for each
   pub told_all : (so_far : so.Told) → ToldSoFar honest handed so_far → length so_far.processes.items ≡ length handed → honest → so_far.started ≡ true → StandsForRuns handed so_far.processes.items
   told_all so_far told_so many is_honest all number given at = told_so.stands is_honest all number given (rw many (slice_get_within handed number given at)) at
-
-  -- where a process is not told, or some were not, they were not all started from what was handed in
-  pub told_less : (so_far : so.Told) → ToldSoFar honest handed so_far → ToldSoFar honest handed (record { processes = so_far.processes; published = so_far.published; started = false })
-  told_less so_far told_so = record { stands = λ h s. absurd (cc); last = told_so.last }
 
   pub many_more : (old new : so.Told) → Adds honest handed old new → length old.processes.items < length handed → length new.processes.items ≤ length handed
   many_more old new adds small = omega (arith, ap (λ (l : List ProcessReport). length l) adds.added, length-append old.processes.items (adds.report ∷ []), small)

@@ -5,3 +5,4 @@ pub mod Growing
 pub mod Showing
 pub mod Reported
 pub mod Turns
+pub mod Standing

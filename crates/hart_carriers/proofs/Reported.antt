@@ -1,4 +1,4 @@
--- What a report tells of what was handed in, by the processes' starts.
+-- What a report says of what was handed in, by the processes' starts.
 use Rattle.std.proofs.Common.{◌≡◌, ◌∙◌, ℕ, is_some, List, Option, Some, None, Vec, true, length, map, option_map, slice_get, sym, refl, subst, vec_len}
 use Rattle.std.specs.Prelude.{IfSome}
 use Rattle.std.proofs.lemmas.List.{length-map}

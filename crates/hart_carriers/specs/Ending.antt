@@ -9,34 +9,42 @@ use Rattle.hart_carriers.specs.declared.crew.Crew.{Crew}
 use Rattle.hart_carriers.specs.declared.crew.CrewRequest.{CrewRequest}
 use Rattle.hart_carriers.specs.declared.report.RunReport.{RunReport}
 use Rattle.machine_sides.specs.FlatLines.{HaveLines}
-use Rattle.machine_sides.specs.Reporting.{Counts, told}
+use Rattle.machine_sides.specs.Reporting.{Counts, come_to, told}
 use Rattle.machine_sides.specs.declared.report.ProcessReport.{ProcessReport}
+use Rattle.space_core.specs.StandsFor.{StandsFor}
 use Rattle.status_cell.specs.ViewerValue.{ViewerValue}
 
--- how many pages of these processes were cleaned ahead, as a count that stays at 2^64 - 1 tells it
+-- how many pages of these processes were cleaned ahead, as a count that stays at 2^64 - 1 has it
 unfoldable pub cleans_of : {S : Type 0} → List (HeldValue S) → ℕ
 cleans_of held = min (sum_by (λ h. h.cleans) held) (2 ^ 64 - 1)
 
--- what is told of it: nothing where no page was to be
+-- what is reported of it: nothing where no page was to be
 abbrev pub told_cleans : {S : Type 0} → Bool → List (HeldValue S) → Option ℕ
 told_cleans ahead held = if ahead then Some (cleans_of held) else None
 
--- a pager and so many processes, as their locks kept them, on which an audit finds nothing amiss: list and pages agree, page by page
+-- A pager and so many processes, as their locks kept them, on which an audit finds nothing amiss: list and pages agree, page by page. Each line
+-- says what its process has come to: its turns are those that the process ran.
 pub record EndsSound (S : Type 0) (processes : ℕ) (run : RunReport) : Type 0 where
   pub desk : DeskValue
   pub held : List (HeldValue S)
   pub many : length held ≡ processes
+  pub come : map told run.report.processes.items ≡ map (λ h. come_to h.side) held
   pub sound : IsSound desk held
   pub agree : AgreeEverywhere desk held
   pub size : desk.pager.pager.size ≡ run.report.frames
   pub counts : Counts desk.pager run.report
   pub cleans : run.cleans ≡ told_cleans run.crew.ahead held
 
+-- where slots are honest, the registers and the memory of each of these processes are what the flat run of its turns leaves
+pub record EndStanding {S : Type 0} (content : S → List ℕ) (honest : Type 0) (processes : ℕ) (run : RunReport) : Type 0 where
+  pub ends : EndsSound S processes run
+  pub stand : honest → All (λ h. StandsFor content h.side) ends.held
+
 -- there is an ending in every line
 abbrev pub HaveEnded : List ProcessReport → Type 0
 HaveEnded processes = All (λ process. IsSome process.end) processes
 
--- each viewer of a process's counts has seen, in the end, what is told of that process
+-- each viewer of a process's counts has seen, in the end, what is reported of that process
 abbrev pub ShowLines : List ViewerValue → List ProcessReport → Type 0
 ShowLines viewers processes = map (λ viewer. viewer.seen) viewers ≡ map counts_of processes
 
@@ -50,7 +58,7 @@ pub record IsCrewOf (wanted : CrewRequest) (crew : Crew) : Type 0 where
 
 -- What is reported of a machine of so many frames and slots that ran these processes by such a crew. Where its audit found nothing amiss its
 -- pool was of these slots in the end, list and pages agreed, each process has ended, and each viewer of a process's counts shows what its line
--- tells; where its slots are honest besides, each line is that of a flat run.
+-- says; where its slots are honest besides, each line is that of a flat run.
 pub record IsReportOf (S : Type 0) (honest : Type 0) (frames slots : ℕ) (starts : List Start) (wanted : CrewRequest) (run : RunReport) : Type 0 where
   pub stands : honest → run.report.audit ≡ true → HaveLines starts (map told run.report.processes.items)
   pub last : run.published.items ≡ map counts_of run.report.processes.items

@@ -1,4 +1,4 @@
--- What is told of each process, by the flat run that it stands for.
+-- What is reported of each process, by the flat run that it stands for.
 use Rattle.std.specs.Prelude.{◌≡◌, ℕ, List, Vec, length, map, Some, slice_get}
 use Rattle.elf_image.specs.Image.{ImageContent}
 use Rattle.elf_image.specs.Start.{Start, start_of}
@@ -7,7 +7,7 @@ use Rattle.machine_sides.specs.Reporting.{told}
 use Rattle.machine_sides.specs.declared.report.ProcessReport.{ProcessReport}
 use Rattle.status_cell.specs.declared.status.Status.{Status}
 
--- the counts that are told of a process
+-- the counts that are reported of a process
 abbrev pub counts_of : ProcessReport → Status
 counts_of report = record { steps = report.steps; output = length report.output.items }
 

@@ -3,3 +3,4 @@ pub mod Ending
 pub mod Counts
 pub mod FlatLines
 pub mod Telling
+pub mod Turns

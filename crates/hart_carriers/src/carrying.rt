@@ -2,10 +2,11 @@
 
 ghost use Rattle.std.specs.Prelude.{◌≡◌, ◌==◌, ◌+◌, ◌%◌, ◌<◌, ◌≤◌, IfSome};
 ghost use Rattle.hart_carriers.specs.Causes.{cause_of_stop};
+ghost use Rattle.hart_carriers.specs.Turns.{turn_of};
 
 use crate::crew::Shift;
 use crate::paging_in::bring_in;
-use crate::seats::{EMPTY, Lack, Row, Seat, hungry_process, seats};
+use crate::seats::{EMPTY, Lack, Look, Row, Seat, seats};
 use clock_policy::Clock;
 use flat_machine::KillCause;
 use machine_limits::{MOST_HARTS, MOST_PROCESSES};
@@ -38,19 +39,27 @@ pub fn carrier<L: Ledger, S: SwapSlot, C: Clock, G: Gate, R: Wait>(
     };
     let locks = shared.locks();
     let mut seats = seats();
+    let mut next = 0;
     for _ in rt.forever() {
-        // In this order: the ring that tells of the last ending comes behind it, and is not to be among those that are known already.
+        // In this order: the ring of the last ending comes after that ending, and is not to be among those that are known already.
         let rings = locks.rings(worker);
         if locks.has_ended() {
             return shift;
         }
-        let round = carry_round(rt, shared, &shift, &mut seats, reclaimer, gate);
+        let look = Look {
+            rings,
+            is_offered: locks.take_offer(worker),
+            is_serving: false,
+        };
+        let round = carry_round(
+            rt, shared, &shift, &mut seats, &mut next, look, reclaimer, gate,
+        );
         locks.set_hungry(worker, round.hungry);
-        if !round.ran || round.hungry.is_none() {
+        if !round.hungry || !locks.has_turn(worker) {
             locks.pass_turn(worker);
-        }
-        if !round.ran {
-            locks.wait_for_ring(rt, worker, rings);
+            if !round.ran {
+                locks.wait_for_ring(rt, worker, rings);
+            }
         }
     }
     unreachable!()
@@ -61,41 +70,87 @@ pub fn carrier<L: Ledger, S: SwapSlot, C: Clock, G: Gate, R: Wait>(
 struct Round {
     /// Whether any instruction ran.
     ran: bool,
-    /// The least process of which a hart waits for a frame.
-    hungry: Option<u32>,
+    /// Whether a hart waits for a frame.
+    hungry: bool,
 }
 
-/// Carries each hart that falls to a worker and may be carried. Where the turn to make room comes to the worker meanwhile, the process for which it
-/// waits goes first.
+/// That of harts none of which was carried.
+const IDLE: Round = Round {
+    ran: false,
+    hungry: false,
+};
+
+impl Round {
+    /// What both came to.
+    fn and(self, other: Round) -> Round {
+        Round {
+            ran: self.ran || other.ran,
+            hungry: self.hungry || other.hungry,
+        }
+    }
+}
+
+/// Carries each hart that falls to a worker and may be carried. Where the worker was given the turn to make room by then, or is meanwhile, those go first
+/// that wait for a frame.
 fn carry_round<L: Ledger, S: SwapSlot, C: Clock, G: Gate, R: Wait>(
     rt: &R,
     shared: &Shared<L, S, C>,
     shift: &Shift,
     seats: &mut [Row; MOST_PROCESSES],
+    next: &mut u32,
+    look: Look,
     reclaimer: &Mutex<Reclaimer<'_>>,
     gate: &G,
 ) -> Round {
-    let mut round = Round {
-        ran: false,
-        hungry: None,
-    };
+    let mut round = IDLE;
     let locks = shared.locks();
-    let mut had_turn = locks.has_turn(shift.worker);
     for process in 0..shared.processes() {
-        let has_turn = locks.has_turn(shift.worker);
-        if has_turn && !had_turn {
-            if let Some(first) = locks.hungry_for(shift.worker) {
-                let of_first = carry_row(rt, shared, first, shift, seats, reclaimer, gate);
-                round.ran = round.ran || of_first.ran;
-                locks.set_hungry(shift.worker, hungry_process(seats));
-            }
+        if locks.begin_turn(shift.worker) {
+            let ran = serve_waiting(rt, shared, shift, seats, next, look, reclaimer, gate);
+            round.ran = round.ran || ran;
         }
-        had_turn = has_turn;
-        let of_process = carry_row(rt, shared, process, shift, seats, reclaimer, gate);
-        round.ran = round.ran || of_process.ran;
-        round.hungry = round.hungry.or(of_process.hungry);
+        round = round.and(carry_row(rt, shared, process, shift, seats, look, reclaimer, gate));
     }
     round
+}
+
+/// In a worker's turn to make room: serves each of its harts that waits for a frame, from the process on after the one that was served last. Then the next
+/// worker has the turn that waits for one. Where the turn is out of order only the process is served for which it is. Answers whether any instruction ran.
+fn serve_waiting<L: Ledger, S: SwapSlot, C: Clock, G: Gate, R: Wait>(
+    rt: &R,
+    shared: &Shared<L, S, C>,
+    shift: &Shift,
+    seats: &mut [Row; MOST_PROCESSES],
+    next: &mut u32,
+    look: Look,
+    reclaimer: &Mutex<Reclaimer<'_>>,
+    gate: &G,
+) -> bool {
+    let locks = shared.locks();
+    let look = look.serving();
+    if let Some(first) = locks.lent_for(shift.worker) {
+        let round = carry_row(rt, shared, first, shift, seats, look, reclaimer, gate);
+        locks.pass_turn(shift.worker);
+        return round.ran;
+    }
+    let mut ran = false;
+    for _ in 0..shared.processes() {
+        let process = *next;
+        *next = next_process(process, shared.processes());
+        let round = carry_row(rt, shared, process, shift, seats, look, reclaimer, gate);
+        ran = ran || round.ran;
+        if !locks.has_turn(shift.worker) {
+            return ran;
+        }
+    }
+    locks.let_others_reclaim(shift.worker);
+    ran
+}
+
+/// The process after this one, of so many, in a round.
+fn next_process(process: u32, processes: u32) -> u32 {
+    let next = process.saturating_add(1);
+    if next < processes { next } else { 0 }
 }
 
 /// The same of the harts of one process.
@@ -105,18 +160,16 @@ fn carry_row<L: Ledger, S: SwapSlot, C: Clock, G: Gate, R: Wait>(
     process: u32,
     shift: &Shift,
     seats: &mut [Row; MOST_PROCESSES],
+    look: Look,
     reclaimer: &Mutex<Reclaimer<'_>>,
     gate: &G,
 ) -> Round {
     if shared.locks().has_live(process) {
         if let Some(row) = seats.get_mut(process as usize) {
-            return carry_process(rt, shared, process, shift, row, reclaimer, gate);
+            return carry_process(rt, shared, process, shift, row, look, reclaimer, gate);
         }
     }
-    Round {
-        ran: false,
-        hungry: None,
-    }
+    IDLE
 }
 
 fn carry_process<L: Ledger, S: SwapSlot, C: Clock, G: Gate, R: Wait>(
@@ -125,40 +178,34 @@ fn carry_process<L: Ledger, S: SwapSlot, C: Clock, G: Gate, R: Wait>(
     process: u32,
     shift: &Shift,
     row: &mut Row,
+    look: Look,
     reclaimer: &Mutex<Reclaimer<'_>>,
     gate: &G,
 ) -> Round {
-    let mut round = Round {
-        ran: false,
-        hungry: None,
-    };
+    let mut round = IDLE;
     let locks = shared.locks();
-    let rings = locks.rings(shift.worker);
     let mut next = first_hart(process, shift);
     for _ in 0..MOST_HARTS {
         let Some(seat) = row.get_mut(next as usize) else {
             return round;
         };
         let hart = next as u32;
+        let is_wanted = seat.hungry || !look.is_serving;
         if !locks.is_live(process, hart) {
             *seat = EMPTY;
-        } else if locks.may_run(process, hart) && falls_to(process, hart, shift) {
-            let pages = locks.pages();
-            let lacked = seat.lack.is_some();
-            if carry_hart(
-                rt, shared, process, hart, shift, seat, rings, reclaimer, gate,
-            ) {
-                round.ran = true;
+        } else if is_wanted && locks.may_run(process, hart) && falls_to(process, hart, shift) {
+            let ran = carry_hart(
+                rt, shared, process, hart, shift, seat, look, reclaimer, gate,
+            );
+            round.ran = round.ran || ran != 0;
+            if !look.is_serving {
+                locks.let_others_reclaim(shift.worker);
             }
-            if locks.pages() == pages {
-                let has_tried = lacked || seat.lack.is_some();
-                locks.let_others_reclaim(shift.worker, has_tried);
-            }
-        } else {
+        } else if is_wanted {
             seat.let_others_pass();
         }
         if seat.hungry {
-            round.hungry = Some(process);
+            round.hungry = true;
         }
         next = next.saturating_add(u64::from(shift.workers));
     }
@@ -186,7 +233,8 @@ fn falls_to(process: u32, hart: u32, shift: &Shift) -> bool
     (u64::from(process) + u64::from(hart)) % u64::from(shift.workers) == u64::from(shift.worker)
 }
 
-/// Carries a hart to the end of its turn, or as far as it gets without a page that it has to wait for. Answers whether any instruction ran.
+/// Carries a hart to the end of its turn, or as far as it gets without a page that it has to wait for. Returns how many instructions ran: no more than
+/// its turn had left, which the seat keeps over such a wait.
 fn carry_hart<L: Ledger, S: SwapSlot, C: Clock, G: Gate, R: Wait>(
     rt: &R,
     shared: &Shared<L, S, C>,
@@ -194,16 +242,17 @@ fn carry_hart<L: Ledger, S: SwapSlot, C: Clock, G: Gate, R: Wait>(
     hart: u32,
     shift: &Shift,
     seat: &mut Seat,
-    rings: u64,
+    look: Look,
     reclaimer: &Mutex<Reclaimer<'_>>,
     gate: &G,
-) -> bool {
+) -> u32
+    ensures within { result + seat.new.left ≤ turn_of shift.now.slice seat.old.left }
+{
     let locks = shared.locks();
-    let mut has_run = false;
-    if seat.left == 0 {
-        seat.left = shift.slice.max(1);
-    }
-    for _ in rt.forever() {
+    let mut ran: u32 = 0;
+    locks.begin_serving(shift.worker);
+    seat.begin_turn(shift.slice);
+    'turn: for _ in rt.forever() {
         if !bring_in(
             rt,
             shared,
@@ -211,16 +260,16 @@ fn carry_hart<L: Ledger, S: SwapSlot, C: Clock, G: Gate, R: Wait>(
             hart,
             shift.worker,
             seat,
-            rings,
+            look,
             reclaimer,
             gate,
         ) {
-            return has_run;
+            return ran;
         }
         let part = run_part(rt, locks, process, hart, seat, gate);
-        has_run = has_run || part.ran != 0;
+        ran = ran.saturating_add(part.ran);
         if part.is_last {
-            return has_run;
+            return ran;
         }
     }
     unreachable!()

@@ -1,8 +1,9 @@
 //! What a machine has come to whose threads were joined.
 
 ghost use Rattle.std.specs.Prelude.{◌≡◌, ◌+◌, ◌≤◌, ◌↔◌, length, map, vec_len, vec_capacity, []};
-ghost use Rattle.std.specs.Prelude.{true, IsTrue};
-ghost use Rattle.machine_sides.specs.Reporting.{Counts};
+ghost use Rattle.std.specs.Prelude.{true, All, IsTrue};
+ghost use Rattle.machine_sides.specs.Reporting.{Counts, come_to, told};
+ghost use Rattle.space_core.specs.StandsFor.{StandsFor};
 ghost use Rattle.held_machine.specs.Audit.{IsSound, AgreeEverywhere};
 ghost use Rattle.machine_limits.specs.Limits.{most_processes};
 ghost use Rattle.hart_carriers.specs.Ending.{HaveEnded, ShowLines, cleans_of, told_cleans};
@@ -40,6 +41,8 @@ pub(crate) fn close<L: Ledger, S: SwapSlot, C: Clock, R: Wait>(
     requires room { length handed.now ≤ vec_capacity room }
     requires blank { statuses.items ≡ [] }
     requires space { length handed.now ≤ vec_capacity statuses }
+    requires none { ran.items ≡ [] }
+    requires seats { vec_len parts.processes ≤ vec_capacity ran }
     ensures stands { S.honest → result.0.report.audit ≡ true →
         StandsForRuns handed.entry.now result.0.report.processes.items }
     ensures last { result.0.published.items ≡ map counts_of result.0.report.processes.items }
@@ -59,7 +62,11 @@ pub(crate) fn close<L: Ledger, S: SwapSlot, C: Clock, R: Wait>(
     ensures sound { result.0.report.audit ≡ true → IsSound parts.desk parts.processes.items }
     ensures agree { result.0.report.audit ≡ true →
         AgreeEverywhere parts.desk parts.processes.items }
+    ensures come { result.0.report.audit ≡ true → map told result.0.report.processes.items ≡
+        map (λ h. come_to h.side) parts.processes.items }
+    ensures stand { S.honest → All (λ h. StandsFor S.content h.side) parts.processes.items }
 {
+    all_stand(parts.processes.as_slice());
     let agrees = parts.audit();
     let counts = parts.desk.pager().counts();
     let sized = parts.desk.pager().size() == frames;
@@ -118,9 +125,22 @@ fn cleans_of<L: Ledger, S: SwapSlot>(processes: &[Held<L, S>]) -> u64
     cleans
 }
 
+/// For the proof only: each process stands for the flat run of its schedule.
+fn all_stand<L: Ledger, S: SwapSlot>(processes: &[Held<L, S>])
+    ensures { S.honest → All (λ h. StandsFor S.content h.side) processes.now }
+{
+    for held in processes {
+        held.coherent();
+    }
+}
+
 /// The pager's desk and the processes, each of which has given back what the daemon has left it.
+#[tactic(auto, using(held_machine::proofs::Purged::each_come_to))]
 fn purged<L: Ledger, S: SwapSlot, C: Clock>(parts: Parts<L, S, C>) -> (Desk<L, C>, Vec<Held<L, S>>)
     requires few { vec_len parts.processes ≤ most_processes }
+    ensures many { vec_len result.1 ≡ vec_len parts.processes }
+    ensures come { map (λ h. come_to h.side) result.1.items ≡
+        map (λ h. come_to h.side) parts.processes.items }
 {
     let mut all = parts;
     all.purge_all();
@@ -213,20 +233,24 @@ fn gather_all<L: Ledger, C: Clock>(pager: PagerSide<L, C>, frames: u32) -> (bool
 fn all_ran<L: Ledger, S: SwapSlot>(
     processes: Vec<Held<L, S>>,
     room: Vec<Ran<L, S>>,
-) -> Vec<Ran<L, S>> {
+) -> Vec<Ran<L, S>>
+    requires empty { room.items ≡ [] }
+    requires room { vec_len processes ≤ vec_capacity room }
+    ensures come { map (λ ran. come_to ran.process) result.items ≡
+        map (λ h. come_to h.side) processes.items }
+{
     let mut all = room;
     for held in processes {
-        let ran = ran_of(held);
-        if all.len() < all.capacity() {
-            all.push_reserved(ran);
-        }
+        all.push_reserved(ran_of(held));
     }
     all
 }
 
 /// A process, with what was published of it last.
 #[tactic(auto, using(crate::proofs::SameStatus::same_status))]
-fn ran_of<L: Ledger, S: SwapSlot>(held: Held<L, S>) -> Ran<L, S> {
+fn ran_of<L: Ledger, S: SwapSlot>(held: Held<L, S>) -> Ran<L, S>
+    ensures { result.process ≡ held.side }
+{
     let last = held.status();
     Ran {
         process: held.into_side(),

@@ -5,7 +5,7 @@ ghost use Rattle.elf_image.specs.Start.{start_of};
 ghost use Rattle.hart_carriers.specs.Counts.{status_of};
 ghost use Rattle.hart_carriers.specs.FlatLines.{counts_of};
 ghost use Rattle.machine_sides.specs.FlatLines.{StandsForRun};
-ghost use Rattle.machine_sides.specs.Reporting.{told};
+ghost use Rattle.machine_sides.specs.Reporting.{come_to, told};
 
 use elf_image::Image;
 use machine_sides::{ProcessReport, into_process_report};
@@ -36,6 +36,7 @@ pub(crate) fn line_of<L: Ledger, S: SwapSlot>(ran: Ran<L, S>, image: &Image, inp
     ensures stands { S.honest → result.started ≡ true →
         StandsForRun (start_of image.now input.now) (told result.report) }
     ensures last { result.last ≡ counts_of result.report }
+    ensures told { told result.report ≡ come_to ran.process }
 {
     let Ran { process, last } = ran;
     process.coherent();

@@ -1,9 +1,10 @@
 //! The reports of all processes of a machine, by their numbers, with what was published last of each.
 
-ghost use Rattle.std.specs.Prelude.{◌≡◌, ◌≤◌, ◌<◌, ◌&&◌, length, map, vec_len, vec_capacity, []};
-ghost use Rattle.std.specs.Prelude.{true};
+ghost use Rattle.std.specs.Prelude.{◌≡◌, ◌≤◌, ◌<◌, ◌&&◌, ◌++◌, ◌∷◌, length, map, vec_len, vec_capacity};
+ghost use Rattle.std.specs.Prelude.{true, []};
 ghost use Rattle.hart_carriers.specs.FlatLines.{counts_of, StandsForRuns};
 ghost use Rattle.hart_carriers.specs.Telling.{Adds};
+ghost use Rattle.machine_sides.specs.Reporting.{come_to, told as line_of_report};
 
 use crate::line::{Ran, line_of};
 use elf_image::Image;
@@ -39,6 +40,8 @@ pub fn tell<L: Ledger, S: SwapSlot>(
         StandsForRuns handed.entry.now result.processes.items }
     ensures last { result.published.items ≡ map counts_of result.processes.items }
     ensures many { result.started ≡ true → vec_len result.processes ≡ length handed.entry.now }
+    ensures told { result.started ≡ true → map line_of_report result.processes.items ≡
+        map (λ ran. come_to ran.process) processes.items }
 {
     let mut told = Told {
         processes: room,
@@ -88,6 +91,8 @@ fn add<L: Ledger, S: SwapSlot>(told: &mut Told, ran: Ran<L, S>, handed: &[(Image
     requires space { length handed.now ≤ vec_capacity told.old.published }
     requires each { vec_len told.old.published ≡ vec_len told.old.processes }
     ensures adds { Adds S.honest handed.now told.old told.new }
+    ensures told { map line_of_report told.new.processes.items ≡
+        map line_of_report told.old.processes.items ++ come_to ran.process ∷ [] }
     ensures room { vec_capacity told.new.processes ≡ vec_capacity told.old.processes }
     ensures space { vec_capacity told.new.published ≡ vec_capacity told.old.published }
 {

@@ -2,7 +2,8 @@
 
 ghost use Rattle.std.specs.Prelude.{◌≡◌, ◌+◌, ◌<◌, ◌≤◌, ◌⊎◌, ◌↔◌, length, map, vec_len, true};
 ghost use Rattle.std.specs.Prelude.{is_some, IfOk, OnOk, IsErrOf};
-ghost use Rattle.hart_carriers.specs.Ending.{EndsSound, HaveEnded, IsCrewOf, IsReportOf, ShowLines};
+ghost use Rattle.hart_carriers.specs.Ending.{EndsSound, EndStanding, HaveEnded, IsCrewOf, IsReportOf};
+ghost use Rattle.hart_carriers.specs.Ending.{ShowLines};
 ghost use Rattle.machine_limits.specs.Limits.{most_processes};
 ghost use Rattle.hart_carriers.specs.FlatLines.{counts_of, starts_of, StandsForRuns};
 
@@ -43,6 +44,8 @@ pub fn run_machine<S: SwapSlot + Send, C: Clock + Send, G: Gate + Sync, R: Threa
     requires slice { 0 < wanted.now.slice }
     ensures run { IfOk result (IsReportOf S S.honest frames (vec_len slots) (starts_of handed.now)
         wanted.now) }
+    ensures standing { IfOk result (λ run. run.report.audit ≡ true →
+        EndStanding S.content S.honest (length handed.now) run) }
     ensures bad_size { IsErrOf result RunRefusal.BadSize ↔ ((frames < 4) ⊎ (4096 < frames)) }
     ensures too_many { IsErrOf result RunRefusal.TooManyProcesses ↔ ((4 ≤ frames) ×
         ((frames ≤ 4096) × (most_processes < length handed.now))) }
@@ -51,7 +54,7 @@ pub fn run_machine<S: SwapSlot + Send, C: Clock + Send, G: Gate + Sync, R: Threa
     report_over::<Brand, S, C, G, R>(rt, alloc, frames, blank, slots, handed, wanted, gate)
 }
 
-/// The report alone.
+/// Only the report.
 fn report_over<
     L: Ledger + Send + Sync,
     S: SwapSlot + Send,
@@ -75,6 +78,8 @@ fn report_over<
     requires slice { 0 < wanted.now.slice }
     ensures run { IfOk result (IsReportOf S S.honest frames (vec_len slots) (starts_of handed.now)
         wanted.now) }
+    ensures standing { IfOk result (λ run. run.report.audit ≡ true →
+        EndStanding S.content S.honest (length handed.now) run) }
     ensures bad_size { IsErrOf result RunRefusal.BadSize ↔ ((frames < 4) ⊎ (4096 < frames)) }
     ensures too_many { IsErrOf result RunRefusal.TooManyProcesses ↔ ((4 ≤ frames) ×
         ((frames ≤ 4096) × (most_processes < length handed.now))) }
@@ -110,6 +115,8 @@ pub fn run_over<
     requires slice { 0 < wanted.now.slice }
     ensures run { IfOk result (λ ran. IsReportOf S S.honest frames (vec_len slots)
         (starts_of handed.now) wanted.now ran.0) }
+    ensures standing { IfOk result (λ ran. ran.0.report.audit ≡ true →
+        EndStanding S.content S.honest (length handed.now) ran.0) }
     ensures shares { IfOk result (λ ran. ran.0.report.audit ≡ true → ran.1.parts ≡ L.parts) }
     ensures bad_size { IsErrOf result RunRefusal.BadSize ↔ ((frames < 4) ⊎ (4096 < frames)) }
     ensures too_many { IsErrOf result RunRefusal.TooManyProcesses ↔ ((4 ≤ frames) ×
@@ -150,7 +157,7 @@ fn make_desk<L: Ledger, C: Clock>(
     }
 }
 
-/// Runs a machine on this desk. Memory alone can be wanting.
+/// Runs a machine on this desk. It is refused only for lack of memory.
 fn run_on<
     L: Ledger + Send + Sync,
     S: SwapSlot + Send,
@@ -185,6 +192,8 @@ fn run_on<
     ensures cleans { IfOk result (λ ran. is_some ran.0.cleans ≡ wanted.now.ahead) }
     ensures sound { IfOk result (λ ran. ran.0.report.audit ≡ true →
         EndsSound S (length handed.now) ran.0) }
+    ensures standing { IfOk result (λ ran. ran.0.report.audit ≡ true →
+        EndStanding S.content S.honest (length handed.now) ran.0) }
     ensures shares { IfOk result (λ ran. ran.0.report.audit ≡ true → ran.1.parts ≡ frames + 1) }
 {
     let room: Vec<ProcessReport> = Vec::with_capacity(alloc, handed.len())?;

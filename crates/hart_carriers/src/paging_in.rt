@@ -1,13 +1,11 @@
 //! A page that a hart lacks is brought in, or its process ended.
 
-ghost use Rattle.std.specs.Prelude.{◌≡◌};
-ghost use Rattle.hart_carriers.specs.Causes.{cause_of_failures};
+ghost use Rattle.std.specs.Prelude.{◌≡◌, ◌≤◌, ◌⊎◌, ◌↔◌};
 
-use crate::seats::{EMPTY, Lack, Seat};
+use crate::seats::{EMPTY, Lack, Look, Seat};
 use clock_policy::{Clock, Key};
 use flat_machine::KillCause;
 use hart_signals::PageWait;
-use machine_limits::MOST_LOAD_FAULTS;
 use machine_sides::NotAdmitted;
 use paged_memory::PageInFault;
 use reclaim_daemon::{Gate, HoldOfBoth, PagedIn, ProcessLocks, Reclaimer, Room, Shared, pause};
@@ -41,16 +39,21 @@ pub(crate) fn bring_in<L: Ledger, S: SwapSlot, C: Clock, G: Gate, R: Wait>(
     hart: u32,
     worker: u32,
     seat: &mut Seat,
-    rings: u64,
+    look: Look,
     reclaimer: &Mutex<Reclaimer<'_>>,
     gate: &G,
-) -> bool {
+) -> bool
+    ensures within { seat.new.left ≤ seat.old.left }
+{
     let locks = shared.locks();
-    for _ in rt.forever() {
+    if seat.hungry && !look.is_offered && !locks.may_try(worker) {
+        return false;
+    }
+    'tries: for _ in rt.forever() {
         let Some(lack) = seat.lack else {
             return true;
         };
-        if lack.tried == Some(rings) {
+        if lack.tried == Some(look.rings) && !look.is_serving {
             return false;
         }
         let vpn = lack.vpn;
@@ -70,7 +73,7 @@ pub(crate) fn bring_in<L: Ledger, S: SwapSlot, C: Clock, G: Gate, R: Wait>(
                 if !make_room(rt, shared, process, hart, worker, reclaimer, gate) {
                     seat.lack = Some(Lack {
                         told: false,
-                        tried: Some(rings),
+                        tried: Some(look.rings),
                         ..lack
                     });
                     seat.hungry = true;
@@ -85,16 +88,16 @@ pub(crate) fn bring_in<L: Ledger, S: SwapSlot, C: Clock, G: Gate, R: Wait>(
             }
             Try::NotYet => {
                 seat.lack = Some(Lack {
-                    tried: Some(rings),
+                    tried: Some(look.rings),
                     ..lack
                 });
                 seat.hungry = false;
                 return false;
             }
             Try::LoadFault => {
-                let faults = lack.faults.saturating_add(1);
-                seat.lack = Some(Lack { faults, ..lack });
-                if let Some(cause) = cause_of_failures(faults) {
+                let (lack, cause) = lack.failed();
+                seat.lack = Some(lack);
+                if let Some(cause) = cause {
                     locks.kill(rt, process, cause);
                     return false;
                 }
@@ -122,7 +125,7 @@ fn make_room<L: Ledger, S: SwapSlot, C: Clock, G: Gate, R: Wait>(
     gate: &G,
 ) -> bool {
     let locks = shared.locks();
-    if !locks.take_turn(worker, process) {
+    if !locks.take_turn(worker) {
         return false;
     }
     match shared.make_room(rt, reclaimer, gate) {
@@ -174,19 +177,15 @@ fn try_page<L: Ledger, S: SwapSlot, C: Clock, G: Gate, R: Wait>(
     }
 }
 
-/// Why a process is ended for a page that could not be loaded so often in a row.
-fn cause_of_failures(count: u32) -> Option<KillCause>
-    ensures { result ≡ cause_of_failures count }
-{
-    if count >= MOST_LOAD_FAULTS {
-        Some(KillCause::LoadFailed)
-    } else {
-        None
-    }
-}
-
 /// A page that is not absent is on its way out. It is listed as resident between the failed load of another hart and its withdrawal.
-fn after_refusal(reason: NotAdmitted) -> Try {
+fn after_refusal(reason: NotAdmitted) -> Try
+    ensures ended { (result ≡ Try.Ended) ↔ (reason ≡ NotAdmitted.Ended) }
+    ensures not_yet { (result ≡ Try.NotYet) ↔
+        ((reason ≡ NotAdmitted.NotAbsent) ⊎ (reason ≡ NotAdmitted.AlreadyResident)) }
+    ensures no_frame { (result ≡ Try.NoFrame) ↔ (reason ≡ NotAdmitted.NoFrame) }
+    ensures no_memory { (result ≡ Try.Fails KillCause.NoMemory) ↔
+        (reason ≡ NotAdmitted.NoMemory) }
+{
     match reason {
         NotAdmitted::Ended => Try::Ended,
         NotAdmitted::NotAbsent | NotAdmitted::AlreadyResident => Try::NotYet,
@@ -195,7 +194,13 @@ fn after_refusal(reason: NotAdmitted) -> Try {
     }
 }
 
-fn after_fault(fault: PageInFault) -> Try {
+fn after_fault(fault: PageInFault) -> Try
+    ensures not_yet { (result ≡ Try.NotYet) ↔ (fault ≡ PageInFault.NotAbsent) }
+    ensures load_fault { (result ≡ Try.LoadFault) ↔ (fault ≡ PageInFault.Device) }
+    ensures damaged { (result ≡ Try.Fails KillCause.Damaged) ↔ (fault ≡ PageInFault.Damaged) }
+    ensures no_memory { (result ≡ Try.Fails KillCause.NoMemory) ↔
+        (fault ≡ PageInFault.NoMemory) }
+{
     match fault {
         PageInFault::NotAbsent => Try::NotYet,
         PageInFault::Device => Try::LoadFault,

@@ -9,7 +9,7 @@ use thiserror::Error;
 /// What a machine that threads ran has come to.
 #[derive(Drop)]
 pub struct RunReport {
-    /// What is told of any machine. Its audit is true where the list's resident entries are the resident pages, no frame is lost, the slots
+    /// What any machine reports. Its audit is true where the list's resident entries are the resident pages, no frame is lost, the slots
     /// are those of the machine, nothing has happened that no event of it gives, each process was started from what was handed in, each
     /// has ended, and each viewer shows the counts of its line.
     pub report: Report,

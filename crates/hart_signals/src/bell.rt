@@ -1,4 +1,4 @@
-//! How a thread that sleeps is told that something has come which it may wait for.
+//! How a thread that sleeps is woken when something has come for which it may wait.
 
 use std::sync::atomic::{AtomicU64, Ordering};
 

@@ -1,38 +1,19 @@
 //! Who waits for a frame, and whose turn it is to make room.
 
 use crate::signals::Signals;
+use machine_limits::MOST_HARTS;
 
 impl Signals {
-    /// The least process of which a hart waits for a frame that a worker carries, if there is one by now.
-    pub fn set_hungry(&self, worker: u32, process: Option<u32>) {
+    /// Whether a worker has a hart that waits for a frame.
+    pub fn set_hungry(&self, worker: u32, is_hungry: bool) {
         if let Some(station) = self.workers.get(worker as usize) {
-            station.set_hungry(process);
+            station.set_hungry(is_hungry);
         }
-    }
-
-    /// A worker has a hart of a process that waits for a frame.
-    pub fn add_hungry(&self, worker: u32, process: u32) {
-        if let Some(station) = self.workers.get(worker as usize) {
-            let is_least = match station.hungry_for() {
-                Some(least) => u64::from(process) < least,
-                None => true,
-            };
-            if is_least {
-                station.set_hungry(Some(process));
-            }
-        }
-    }
-
-    /// The least process of which a worker has a hart that waits for a frame, if there is one.
-    pub fn hungry_for(&self, worker: u32) -> Option<u32> {
-        let station = self.workers.get(worker as usize)?;
-        let process = station.hungry_for()?;
-        u32::try_from(process).ok()
     }
 
     /// Slots and frames have come free.
     pub fn loosen(&self) {
-        self.turn.loosen();
+        self.turn.forget_tries();
         self.end_rest();
     }
 
@@ -52,26 +33,33 @@ impl Signals {
         self.turn.take(u64::from(worker))
     }
 
+    /// Whether this worker was given the turn and has not begun it: then it begins.
+    pub fn begin_turn(&self, worker: u32) -> bool {
+        let begins = self.has_turn(worker) && self.turn.is_given();
+        if begins {
+            self.turn.begin();
+        }
+        begins
+    }
+
+    /// Whether this worker has begun the turn that it has.
+    pub fn has_begun(&self, worker: u32) -> bool {
+        self.has_turn(worker) && !self.turn.is_given()
+    }
+
+    /// The next hart of the worker whose turn it is gets frames.
+    pub fn begin_serving(&self) {
+        self.turn.begin_serving();
+    }
+
     /// A page has come in for a hart of the worker whose turn it is.
     pub fn count_page(&self) {
         self.turn.count_page();
     }
 
-    /// How many pages have come in for the worker whose turn it is.
-    pub fn pages(&self) -> u64 {
-        self.turn.pages()
-    }
-
-    /// Whether the turn is another worker's, which waits for a frame: many pages have come in for this one; or slots are wanting, and the other one waits
-    /// for an older process.
-    pub fn is_turn_over(&self, worker: u32, process: u32) -> bool {
-        if self.turn.is_tight() {
-            return match self.oldest_hungry(worker) {
-                Some((_, other)) => other < u64::from(process),
-                None => false,
-            };
-        }
-        self.turn.is_over() && self.next_hungry(worker).is_some()
+    /// Whether many pages have come in for the hart that is served, and another worker waits for a frame.
+    pub fn is_served(&self, worker: u32) -> bool {
+        self.turn.is_served() && self.others_wait(worker)
     }
 
     /// The turn to make room goes from this worker to the next one that waits for a frame, which is rung, or to nobody.
@@ -79,17 +67,48 @@ impl Signals {
         if !self.has_turn(worker) {
             return;
         }
-        if self.hand_to_next(worker) {
+        let last = self.turn.end(u64::from(worker));
+        if self.hand_to_next(worker, last) {
             return;
         }
         self.turn.give(None);
         self.end_rest();
         // A worker that was hungry before it saw that the turn is free is seen here, or has taken the turn.
-        if let Some(next) = self.next_hungry(worker) {
-            if self.turn.take(next) {
+        if let Some(next) = self.next_hungry(worker, last) {
+            if self.turn.take_for(next) {
                 self.ring_worker(next);
             }
         }
+    }
+
+    /// The worker whose turn it is gives it to another one that carries a hart of this process which waits for a frame, and rings it. The order of the
+    /// turns goes on after this worker. Answers whether it was given: it is not where no other worker carries such a hart, or it was given so before.
+    pub fn lend_turn(&self, worker: u32, process: u32) -> bool {
+        if !self.has_turn(worker) || self.turn.lent_for().is_some() {
+            return false;
+        }
+        for hart in 0..MOST_HARTS as u32 {
+            if self.waits_for_frame(process, hart) {
+                if let Some(other) = self.carrier(process, hart) {
+                    if other != u64::from(worker) {
+                        let _ = self.turn.end(u64::from(worker));
+                        self.turn.lend(other, process);
+                        self.ring_worker(other);
+                        return true;
+                    }
+                }
+            }
+        }
+        false
+    }
+
+    /// The process for which this worker has the turn out of order, if it has.
+    pub fn lent_for(&self, worker: u32) -> Option<u32> {
+        if !self.has_turn(worker) {
+            return None;
+        }
+        let process = self.turn.lent_for()?;
+        u32::try_from(process).ok()
     }
 
     /// A try to make room is over.
@@ -104,7 +123,7 @@ impl Signals {
 
     /// Whether another worker waits for a frame.
     pub fn others_wait(&self, worker: u32) -> bool {
-        self.next_hungry(worker).is_some()
+        self.next_hungry(worker, u64::from(worker)).is_some()
     }
 
     /// So many frames have come free that nobody made room for: rings for as many workers that wait for one.
@@ -115,15 +134,24 @@ impl Signals {
                 return;
             }
             if station.is_hungry() {
+                station.set_offered();
                 station.bell.ring();
                 left -= 1;
             }
         }
     }
 
+    /// Whether a frame was offered to a worker since this was asked last.
+    pub fn take_offer(&self, worker: u32) -> bool {
+        match self.workers.get(worker as usize) {
+            Some(station) => station.take_offer(),
+            None => false,
+        }
+    }
+
     /// Gives the turn to the next worker that waits for a frame, if there is one besides this one.
-    fn hand_to_next(&self, worker: u32) -> bool {
-        match self.next_hungry(worker) {
+    fn hand_to_next(&self, worker: u32, last: u64) -> bool {
+        match self.next_hungry(worker, last) {
             Some(next) => {
                 self.turn.give(Some(next));
                 self.ring_worker(next);
@@ -133,42 +161,20 @@ impl Signals {
         }
     }
 
-    /// The worker to which the turn goes from this one: the next one, in a round over all others, that waits for a frame; where slots are wanting, the one
-    /// that waits for the oldest process.
-    fn next_hungry(&self, worker: u32) -> Option<u64> {
-        if self.turn.is_tight() {
-            let (number, _) = self.oldest_hungry(worker)?;
-            return Some(number);
-        }
+    /// The next worker that waits for a frame, in a round from the one after `last` on, but not this one.
+    fn next_hungry(&self, worker: u32, last: u64) -> Option<u64> {
         let workers = self.workers.len() as u64;
-        for step in 1..workers {
-            let number = u64::from(worker).wrapping_add(step) % workers;
-            if let Some(station) = self.workers.get(number as usize) {
-                if station.is_hungry() {
-                    return Some(number);
-                }
-            }
-        }
-        None
-    }
-
-    /// Of all other workers, one that waits for a frame for the oldest process, and that process.
-    fn oldest_hungry(&self, worker: u32) -> Option<(u64, u64)> {
-        let mut oldest = None;
-        for (number, station) in self.workers.iter().enumerate() {
-            if number != worker as usize {
-                if let Some(process) = station.hungry_for() {
-                    let is_older = match oldest {
-                        Some((_, least)) => process < least,
-                        None => true,
-                    };
-                    if is_older {
-                        oldest = Some((number as u64, process));
+        for step in 1..workers.saturating_add(1) {
+            let number = last.wrapping_add(step) % workers;
+            if number != u64::from(worker) {
+                if let Some(station) = self.workers.get(number as usize) {
+                    if station.is_hungry() {
+                        return Some(number);
                     }
                 }
             }
         }
-        oldest
+        None
     }
 
     /// Rings for a worker.

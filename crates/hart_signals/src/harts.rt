@@ -103,6 +103,11 @@ impl Harts {
         self.word(number) & (PAGE | FRAME) != 0
     }
 
+    /// Whether a hart is live and waits for a frame.
+    pub(crate) fn waits_for_frame(&self, number: u32) -> bool {
+        self.is_live(number) && self.word(number) & FRAME != 0
+    }
+
     /// Whether a hart is live and waits, for the others to have their turns or for its page to come or go.
     pub(crate) fn waits(&self, number: u32) -> bool {
         self.is_live(number) && self.word(number) & (YIELDED | PAGE) != 0

@@ -1,4 +1,4 @@
-//! What the threads of a machine tell one another without a lock: which harts may run, who waits, and for what.
+//! What the threads of a machine let one another know without a lock: which harts may run, who waits, and for what.
 //!
 //! Each thread sleeps on a bell of its own, and whoever changes what it may wait for rings it. A thread reads how often its bell has rung, then
 //! looks for what there is to do, and sleeps only where the bell has not rung since: so no ring is lost.

@@ -1,4 +1,4 @@
-//! What the threads of a machine tell one another.
+//! What the threads of a machine let one another know.
 
 use crate::bell::Bell;
 use crate::callers::Callers;
@@ -17,7 +17,7 @@ pub enum Runner {
     Another,
 }
 
-/// What the threads of a machine tell one another. Hart `h` of process `p` falls to worker `(p + h) % workers`.
+/// What the threads of a machine let one another know. Hart `h` of process `p` falls to worker `(p + h) % workers`.
 #[derive(Drop)]
 pub struct Signals {
     processes: Vec<Signs>,
@@ -26,6 +26,8 @@ pub struct Signals {
     pub(crate) turn: ReclaimTurn,
     /// How many processes have ended.
     ended: AtomicU64,
+    /// Above 0 where frames have come free since the daemon last called the gate.
+    freed: AtomicU64,
 }
 
 impl Signals {
@@ -37,6 +39,7 @@ impl Signals {
             workers: Vec::new(alloc),
             turn: ReclaimTurn::new(),
             ended: AtomicU64::new(0),
+            freed: AtomicU64::new(0),
         }
     }
 
@@ -48,6 +51,7 @@ impl Signals {
             ended: AtomicU64::new(0),
             pressed: AtomicU64::new(0),
             watcher: AtomicU64::new(0),
+            stuck: AtomicU64::new(0),
         })?;
         Ok(())
     }
@@ -63,6 +67,18 @@ impl Signals {
     /// The daemon's bell.
     pub fn daemon(&self) -> &Bell {
         &self.daemon
+    }
+
+    /// A frame has come free, for which the daemon is to call the gate: it is rung where it has done so for all before.
+    pub fn note_free(&self) {
+        if self.freed.swap(1, Ordering::SeqCst) == 0 {
+            self.daemon.ring();
+        }
+    }
+
+    /// Whether frames have come free since this was asked last.
+    pub fn take_free(&self) -> bool {
+        self.freed.load(Ordering::SeqCst) != 0 && self.freed.swap(0, Ordering::SeqCst) != 0
     }
 
     /// A worker's bell.
@@ -83,7 +99,7 @@ impl Signals {
     }
 
     /// The worker to whom a hart falls.
-    fn carrier(&self, process: u32, hart: u32) -> Option<u64> {
+    pub(crate) fn carrier(&self, process: u32, hart: u32) -> Option<u64> {
         let workers = self.workers.len() as u64;
         if workers == 0 {
             return None;
@@ -128,7 +144,18 @@ impl Signals {
     /// An instruction of a process has run: rings for the worker that waits for that.
     pub fn tell_ran(&self, process: u32) {
         if let Some(signs) = self.processes.get(process as usize) {
+            if signs.stuck.load(Ordering::SeqCst) != 0 {
+                signs.stuck.store(0, Ordering::SeqCst);
+            }
             self.tell_watcher(signs);
+        }
+    }
+
+    /// A page of a process could not leave. Answers how often in a row, since an instruction of it has run.
+    pub fn count_stuck(&self, process: u32) -> u64 {
+        match self.processes.get(process as usize) {
+            Some(signs) => signs.stuck.fetch_add(1, Ordering::SeqCst).wrapping_add(1),
+            None => 0,
         }
     }
 
@@ -281,6 +308,14 @@ impl Signals {
             if harts.waits(hart) && self.carrier(process, hart) != carrier {
                 self.ring(process, hart);
             }
+        }
+    }
+
+    /// Whether a hart waits for a frame.
+    pub(crate) fn waits_for_frame(&self, process: u32, hart: u32) -> bool {
+        match self.harts(process) {
+            Some(harts) => harts.waits_for_frame(hart),
+            None => false,
         }
     }
 

@@ -1,11 +1,11 @@
-//! What is told of each process and each worker.
+//! What is known of each process and each worker.
 
 use crate::bell::Bell;
 use crate::callers::Callers;
 use crate::harts::Harts;
 use std::sync::atomic::{AtomicU64, Ordering};
 
-/// What is told of a process.
+/// What is known of a process.
 #[derive(Drop)]
 pub(crate) struct Signs {
     pub(crate) harts: Harts,
@@ -16,6 +16,8 @@ pub(crate) struct Signs {
     pub(crate) pressed: AtomicU64,
     /// The number, and one more, of the worker that waits until an instruction of the process has run, or 0.
     pub(crate) watcher: AtomicU64,
+    /// How often a page of the process could not leave since an instruction of it has run.
+    pub(crate) stuck: AtomicU64,
 }
 
 impl Signs {
@@ -33,12 +35,14 @@ impl Signs {
     }
 }
 
-/// A worker's bell, and for which process it waits for a frame.
+/// A worker's bell, and whether it waits for a frame.
 #[derive(Drop)]
 pub(crate) struct Station {
     pub(crate) bell: Bell,
-    /// The number, and one more, of the least process of which a hart waits for a frame, or 0.
+    /// Above 0 where a hart waits for a frame.
     hungry: AtomicU64,
+    /// Above 0 where a frame was offered to the worker since it has looked.
+    offered: AtomicU64,
 }
 
 impl Station {
@@ -46,6 +50,7 @@ impl Station {
         Station {
             bell: Bell::new(),
             hungry: AtomicU64::new(0),
+            offered: AtomicU64::new(0),
         }
     }
 
@@ -54,16 +59,16 @@ impl Station {
         self.hungry.load(Ordering::SeqCst) != 0
     }
 
-    pub(crate) fn set_hungry(&self, process: Option<u32>) {
-        let named = match process {
-            Some(number) => u64::from(number).wrapping_add(1),
-            None => 0,
-        };
-        self.hungry.store(named, Ordering::SeqCst);
+    pub(crate) fn set_hungry(&self, is_hungry: bool) {
+        self.hungry.store(u64::from(is_hungry), Ordering::SeqCst);
     }
 
-    /// The least process of which a hart waits for a frame that the worker carries, if there is one.
-    pub(crate) fn hungry_for(&self) -> Option<u64> {
-        self.hungry.load(Ordering::SeqCst).checked_sub(1)
+    pub(crate) fn set_offered(&self) {
+        self.offered.store(1, Ordering::SeqCst);
+    }
+
+    /// Whether a frame was offered since this was asked last.
+    pub(crate) fn take_offer(&self) -> bool {
+        self.offered.load(Ordering::SeqCst) != 0 && self.offered.swap(0, Ordering::SeqCst) != 0
     }
 }

@@ -15,7 +15,7 @@ module _ {S : Type 0} (number : ℕ) (desk desk' : DeskValue) (held held' : Held
   abbrev pub IsOther : Type 0
   IsOther = CallsNone (held.side.memory.process ≢ number)
 
-  -- The process is the one of this number, and a call did this. It changed the pager and the process alone, beside the tries; and each
+  -- The process is the one of this number, and a call did this. It changed only the pager and the process, beside the tries; and each
   -- page of the process on which list and process agreed they agree on still.
   pub record Answers (tries : ℕ) (sound : Bool) (does : Type 0) : Type 0 where
     pub process : held.side.memory.process ≡ number

@@ -1,4 +1,4 @@
--- A changed page of a process is cleaned while it is used, under the process's lock alone: its cleaning begins, a copy of it goes out, and the
+-- A changed page of a process is cleaned while it is used, under only the process's lock: its cleaning begins, a copy of it goes out, and the
 -- copy comes back.
 use Rattle.std.specs.Prelude.{◌≡◌, ℕ, ◌≤◌, ◌<◌, ◌^◌, true, false, Option, Some, None, Result, Ok, Err}
 use Rattle.clock_policy.specs.declared.key.Key.{Key}
@@ -48,7 +48,7 @@ module _ {S : Type 0} where
   BeginsNext from (Page vpn) old new = BeginsPage from vpn old new
   BeginsNext from (Barred vpn reason) old new = BarsPage from vpn reason old new
 
-  -- of what stands under the lock the process alone changes
+  -- of what the lock holds only the process changes
   pub record BeginsHeld (from : ℕ) (reply : Begun) (old new : HeldValue S) : Type 0 where
     pub begins : BeginsNext from reply old.side new.side
     pub held_is : new ≡ record old { side = new.side }

@@ -1,4 +1,4 @@
--- Holds of a process's lock alone: the process is the one of its number, or no call was made.
+-- Holds of only a process's lock: the process is the one of its number, or no call was made.
 use Rattle.std.specs.Prelude.{◌≡◌, ◌≢◌, ◌⊎◌, ℕ, Bool, true, false, nat_le, List, Option, Some, None}
 use Rattle.std.specs.Option.{option_or}
 use Rattle.flat_machine.specs.declared.end.KillCause.{KillCause}

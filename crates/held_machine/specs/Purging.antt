@@ -1,5 +1,5 @@
 -- An ended process gives its pages back under both locks and the slots'.
-use Rattle.std.specs.Prelude.{◌≡◌, ◌≢◌, ◌⊎◌, ℕ, Option, Result, Some, None}
+use Rattle.std.specs.Prelude.{◌≡◌, ◌≢◌, ◌⊎◌, ℕ, zero, suc, List, Option, Result, Some, None, slice_get, slice_set}
 use Rattle.machine_sides.specs.Purging.{HasRoom, Purges}
 use Rattle.machine_sides.specs.declared.purging.PurgeRefusal.{PurgeRefusal}
 use Rattle.swap_slots.specs.PoolValue.{PoolValue}
@@ -18,3 +18,24 @@ module _ {S : Type 0} (number : ℕ) (desk desk' : DeskValue) (held held' : Held
   PurgesHeld None = PurgesNone
   PurgesHeld (Some result) =
       Answers number desk desk' held held' held.tries desk.sound (Purges desk.pager desk'.pager held.side held'.side slots slots' result)
+
+-- what stands under all locks of a machine: the pager, its processes by rising number, and the free slots
+pub record StandingValue (S : Type 0) : Type 0 where
+  pub desk : DeskValue
+  pub held : List (HeldValue S)
+  pub slots : PoolValue S
+
+module _ {S : Type 0} where
+  -- the process of a number gives its pages back, as far as it can
+  pub record PurgesOne (number : ℕ) (old new : StandingValue S) : Type 0 where
+    pub before : HeldValue S
+    pub after : HeldValue S
+    pub result : Option (Result (Unit {0}) PurgeRefusal)
+    pub found : slice_get old.held number ≡ Some before
+    pub purges : PurgesHeld number old.desk new.desk before after old.slots new.slots result
+    pub held_is : new.held ≡ slice_set old.held number after
+
+  -- so many processes do, by rising number
+  unfoldable pub PurgesEach : ℕ → StandingValue S → StandingValue S → Type 0
+  PurgesEach zero old new = new ≡ old
+  PurgesEach (suc number) old new = (between : StandingValue S) × (PurgesEach number old between × PurgesOne number between new)

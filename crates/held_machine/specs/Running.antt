@@ -1,4 +1,4 @@
--- What is done to a process under its lock alone, and what is published of it then.
+-- What is done to a process under only its lock, and what is published of it then.
 use Rattle.std.specs.Prelude.{◌≡◌, ℕ, ◌==◌, Bool, true, List, Option, None, Some, if◌then◌else◌}
 use Rattle.flat_machine.specs.declared.end.KillCause.{KillCause}
 use Rattle.machine_sides.specs.Admitting.{AdmissionValue}

@@ -104,7 +104,7 @@ impl<L: Ledger, S: SwapSlot> Held<L, S> {
         ensures stands { S.honest → StandsFor S.content self.now.side }
         ensures published { self.now.writer.last ≡ status_of self.now.side }
     {
-        // For the proof alone: a read tells its invariant.
+        // For the proof only: a read gives its invariant.
         let _ = &self.told;
         self.side.coherent();
     }
@@ -116,7 +116,7 @@ impl<L: Ledger, S: SwapSlot> Held<L, S> {
         &self.side
     }
 
-    /// The process alone.
+    /// Only the process.
     pub fn into_side(self) -> Space<L, S>
         ensures { result ≡ self.side }
     {
@@ -285,7 +285,7 @@ fn status_after<L: Ledger, S: SwapSlot>(side: &Space<L, S>, steps: u64, ran: u32
     requires { length (written_out side.now.schedule) ≡ steps + ran }
     ensures { result ≡ status_of side.now }
 {
-    // For the proof alone: a read tells that what is read is lawful.
+    // For the proof only: what is read is lawful.
     let _turns = side.schedule().turns();
     Status {
         steps: steps + u64::from(ran),

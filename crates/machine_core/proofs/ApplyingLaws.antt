@@ -76,8 +76,3 @@ module _ {S : Type 0} (held : S → List ℕ) (honest : Type 0) (failures : S �
     replies = first.replies ++ second.replies;
     runs = runs_on first.events second.events first.replies second.replies old between new first.runs second.runs;
   }
-
-  -- so is what a run leaves
-  pub reaches_run : (events : List Event) (replies : List Reply) (old between new : CoreValue S) → LeadsTo held honest failures old between → Runs held honest failures events replies between new
-      → LeadsTo held honest failures old new
-  reaches_run events replies old between new reached run = reaches_on old between new reached (record { events = events; replies = replies; runs = run })

@@ -3,7 +3,7 @@ use Rattle.std.specs.Prelude.{◌≡◌, ℕ, ◌+◌, ◌-◌, ◌<◌, ◌≤�
 use Rattle.std.specs.List.{AllZip}
 use Rattle.std.proofs.Common.{arith, ap, sym, ◌∙◌}
 use Rattle.std.proofs.lemmas.List.{append-nil, append_assoc, length-append}
-use Rattle.clock_policy.specs.declared.key.Key.{Key}
+use Rattle.guest_strings.specs.declared.reference.Reference.{Reference}
 use Rattle.page_policies.specs.declared.frames.Frames.{Frames}
 use Rattle.miss_counts.specs.Counted.{asked, count_of, misses_of, serves}
 use Rattle.miss_counts.specs.Playing.{Begins, Opens, PlaysPages, StartsAnew, Where}
@@ -13,7 +13,7 @@ use Rattle.miss_counts.specs.declared.any_player.AnyPlayer.{AnyPlayer}
 use Rattle.miss_counts.specs.declared.counts.PolicyCount.{PolicyCount}
 use Rattle.miss_counts.specs.declared.counts.PolicyCounts.{PolicyCounts}
 use Rattle.miss_counts.specs.declared.policy_name.PolicyName.{PolicyName}
-use Rattle.miss_counts.specs.declared.policy_name.PolicyName.TheVariants.{Fifo, Clock, Lru, ClockProUsed, ClockPro, TwoQueues, Lirs, Arc, Sieve, S3Fifo, WTinyLfu, Random}
+use Rattle.miss_counts.specs.declared.policy_name.PolicyName.TheVariants.{Fifo, Clock, Lru, ClockProUsed, ClockPro, TwoQueues, Lirs, Arc, Sieve, S3Fifo, WTinyLfu, Car, LruK, GClock, Lfu, Mru, SecondChance, Nru, Aging, WsClock, TwoLists, Random}
 use Rattle.page_policies.specs.Queues.{fifo_misses, lru_misses}
 use Rattle.page_policies.specs.SecondChance.{clock_misses}
 use Rattle.page_policies.specs.Random.{random_misses}
@@ -24,11 +24,20 @@ use Rattle.younger_policies.specs.Arc.{arc_misses}
 use Rattle.younger_policies.specs.Sieve.{sieve_misses}
 use Rattle.younger_policies.specs.S3Fifo.{s3_fifo_misses}
 use Rattle.tiny_lfu.specs.WTinyLfu.{w_tiny_lfu_misses}
+use Rattle.textbook_policies.specs.Car.{car_misses}
+use Rattle.textbook_policies.specs.LruK.{lru_k_misses}
+use Rattle.textbook_policies.specs.GClock.{g_clock_misses}
+use Rattle.textbook_policies.specs.Lfu.{lfu_misses}
+use Rattle.textbook_policies.specs.Mru.{mru_misses}
+use Rattle.ticked_policies.specs.SecondChance.{second_chance_misses}
+use Rattle.ticked_policies.specs.Ticked.{aging_misses, nru_misses, ticked_misses}
+use Rattle.ticked_policies.specs.WsClock.{ws_clock_misses}
+use Rattle.kernel_policies.specs.TwoLists.{two_lists_misses}
 use Rattle.miss_counts.specs.declared.row.NamedPlayer.{NamedPlayer}
 use Rattle.miss_counts.specs.declared.row.Row.{Row}
 
 -- what is counted, and what would be counted of a string to come
-abbrev all : AnyPlayer → List Key → ℕ
+abbrev all : AnyPlayer → List Reference → ℕ
 all = any.all-value.it
 
 -- two lists and two more, place by place
@@ -58,7 +67,7 @@ zip_same {C = C} f g (x ∷ xs) (y ∷ ys) p = ap (λ (c : C). c ∷ map g ys) p
 
 -- nothing is missed of no references
 pub nothing_missed : (policy : PolicyName) (frames : ℕ) → misses_of policy frames [] ≡ 0
-unfolding fifo_misses clock_misses lru_misses clock_pro_used_misses clock_pro_misses two_queues_misses lirs_misses arc_misses sieve_misses s3_fifo_misses w_tiny_lfu_misses random_misses
+unfolding fifo_misses clock_misses lru_misses clock_pro_used_misses clock_pro_misses two_queues_misses lirs_misses arc_misses sieve_misses s3_fifo_misses w_tiny_lfu_misses car_misses lru_k_misses g_clock_misses lfu_misses mru_misses nru_misses aging_misses ticked_misses ws_clock_misses two_lists_misses random_misses
 nothing_missed Fifo frames = refl
 nothing_missed Clock frames = refl
 nothing_missed Lru frames = refl
@@ -70,6 +79,16 @@ nothing_missed Arc frames = refl
 nothing_missed Sieve frames = refl
 nothing_missed (S3Fifo shares) frames = refl
 nothing_missed (WTinyLfu shares) frames = refl
+nothing_missed Car frames = refl
+nothing_missed (LruK uses) frames = refl
+nothing_missed (GClock counts) frames = refl
+nothing_missed Lfu frames = refl
+nothing_missed Mru frames = refl
+nothing_missed (SecondChance arrival) frames = refl
+nothing_missed (Nru ticks) frames = refl
+nothing_missed (Aging ticks) frames = refl
+nothing_missed (WsClock set) frames = refl
+nothing_missed (TwoLists parts) frames = refl
 nothing_missed (Random seed) frames = refl
 
 begun : (frames : ℕ) (policy : PolicyName) (player : Option AnyPlayer) → Begins all frames policy player → CountsWhereServed frames policy [] [] player
@@ -82,23 +101,23 @@ begun frames policy (Some player) begins =
       counts = λ string. let is : all player string ≡ misses_of policy frames string = begins.1 string in omega (arith, none, is);
     }
 
-played_on : (pages skipped played : List Key) (frames : ℕ) (policy : PolicyName) (p q : AnyPlayer) → length (played ++ pages) < 2 ^ 64 → HasCounted frames policy skipped played p → PlaysPages all pages p q
+played_on : (pages skipped played : List Reference) (frames : ℕ) (policy : PolicyName) (p q : AnyPlayer) → length (played ++ pages) < 2 ^ 64 → HasCounted frames policy skipped played p → PlaysPages all pages p q
     → HasCounted frames policy skipped (played ++ pages) q
 played_on pages skipped played frames policy p q fit h plays =
     let sized : length (played ++ pages) ≡ length played + length pages = length-append played pages in
     let few : all p [] ≤ length played = h.few in
     let more : all q [] ≤ all p [] + length pages = plays.1 in
-    let goes : (string : List Key) → all p (pages ++ string) ≡ all q string = plays.0 (omega (arith, few, sized, fit)) in record {
+    let goes : (string : List Reference) → all p (pages ++ string) ≡ all q string = plays.0 (omega (arith, few, sized, fit)) in record {
       served = h.served;
       few = omega (arith, more, few, sized);
-      counts = λ string. ap (λ (n : ℕ). misses_of policy frames skipped + n) (sym (goes string)) ∙ h.counts (pages ++ string) ∙ ap (λ (l : List Key). misses_of policy frames (skipped ++ l)) (sym (append_assoc played pages string));
+      counts = λ string. ap (λ (n : ℕ). misses_of policy frames skipped + n) (sym (goes string)) ∙ h.counts (pages ++ string) ∙ ap (λ (l : List Reference). misses_of policy frames (skipped ++ l)) (sym (append_assoc played pages string));
     }
 
 -- what was counted, and what was played
-whole : (skipped played : List Key) (frames : ℕ) (policy : PolicyName) (p : AnyPlayer) → HasCounted frames policy skipped played p → misses_of policy frames skipped + all p [] ≡ misses_of policy frames (skipped ++ played)
-whole skipped played frames policy p h = h.counts [] ∙ ap (λ (l : List Key). misses_of policy frames (skipped ++ l)) (append-nil played)
+whole : (skipped played : List Reference) (frames : ℕ) (policy : PolicyName) (p : AnyPlayer) → HasCounted frames policy skipped played p → misses_of policy frames skipped + all p [] ≡ misses_of policy frames (skipped ++ played)
+whole skipped played frames policy p h = h.counts [] ∙ ap (λ (l : List Reference). misses_of policy frames (skipped ++ l)) (append-nil played)
 
-skipped_on : (skipped played : List Key) (frames : ℕ) (policy : PolicyName) (p q : AnyPlayer) → HasCounted frames policy skipped played p → StartsAnew all p q → HasCounted frames policy (skipped ++ played) [] q
+skipped_on : (skipped played : List Reference) (frames : ℕ) (policy : PolicyName) (p q : AnyPlayer) → HasCounted frames policy skipped played p → StartsAnew all p q → HasCounted frames policy (skipped ++ played) [] q
 skipped_on skipped played frames policy p q h anew =
     let first : all p [] ≡ all p [] + all q [] = anew [] in
     let before : misses_of policy frames skipped + all p [] ≡ misses_of policy frames (skipped ++ played) = whole skipped played frames policy p h in record {
@@ -111,33 +130,33 @@ skipped_on skipped played frames policy p q h anew =
           sum ∙ ap (misses_of policy frames) (sym (append_assoc skipped played string));
     }
 
-front : (skipped played : List Key) → take (length skipped) (skipped ++ played) ≡ skipped
+front : (skipped played : List Reference) → take (length skipped) (skipped ++ played) ≡ skipped
 front [] played = refl
-front (k ∷ ks) played = ap (λ (l : List Key). k ∷ l) (front ks played)
+front (k ∷ ks) played = ap (λ (l : List Reference). k ∷ l) (front ks played)
 
-behind : (skipped played : List Key) (frames : ℕ) (policy : PolicyName) (p : AnyPlayer) → HasCounted frames policy skipped played p → all p [] ≡ missed_behind (length skipped) (skipped ++ played) (misses_of policy frames)
+behind : (skipped played : List Reference) (frames : ℕ) (policy : PolicyName) (p : AnyPlayer) → HasCounted frames policy skipped played p → all p [] ≡ missed_behind (length skipped) (skipped ++ played) (misses_of policy frames)
 behind skipped played frames policy p h =
     let sum : misses_of policy frames skipped + all p [] ≡ misses_of policy frames (skipped ++ played) = whole skipped played frames policy p h in
     let rest : all p [] ≡ misses_of policy frames (skipped ++ played) - misses_of policy frames skipped = omega (arith, sum) in
-    rest ∙ ap (λ (l : List Key). misses_of policy frames (skipped ++ played) - misses_of policy frames l) (sym (front skipped played))
+    rest ∙ ap (λ (l : List Reference). misses_of policy frames (skipped ++ played) - misses_of policy frames l) (sym (front skipped played))
 
 -- ---- where it serves so many frames
 
-where_on : (pages skipped played : List Key) (frames : ℕ) (policy : PolicyName) (p q : Option AnyPlayer) → length (played ++ pages) < 2 ^ 64 → CountsWhereServed frames policy skipped played p → Where (PlaysPages all pages) p q
+where_on : (pages skipped played : List Reference) (frames : ℕ) (policy : PolicyName) (p q : Option AnyPlayer) → length (played ++ pages) < 2 ^ 64 → CountsWhereServed frames policy skipped played p → Where (PlaysPages all pages) p q
     → CountsWhereServed frames policy skipped (played ++ pages) q
 where_on pages skipped played frames policy None None fit h plays = h
 where_on pages skipped played frames policy None (Some q) fit h plays = absurd plays
 where_on pages skipped played frames policy (Some p) None fit h plays = absurd plays
 where_on pages skipped played frames policy (Some p) (Some q) fit h plays = played_on pages skipped played frames policy p q fit h plays
 
-where_skipped : (skipped played : List Key) (frames : ℕ) (policy : PolicyName) (p q : Option AnyPlayer) → CountsWhereServed frames policy skipped played p → Where (StartsAnew all) p q
+where_skipped : (skipped played : List Reference) (frames : ℕ) (policy : PolicyName) (p q : Option AnyPlayer) → CountsWhereServed frames policy skipped played p → Where (StartsAnew all) p q
     → CountsWhereServed frames policy (skipped ++ played) [] q
 where_skipped skipped played frames policy None None h anew = h
 where_skipped skipped played frames policy None (Some q) h anew = absurd anew
 where_skipped skipped played frames policy (Some p) None h anew = absurd anew
 where_skipped skipped played frames policy (Some p) (Some q) h anew = skipped_on skipped played frames policy p q h anew
 
-where_told : (skipped played : List Key) (frames : ℕ) (policy : PolicyName) (p : Option AnyPlayer) → CountsWhereServed frames policy skipped played p
+where_told : (skipped played : List Reference) (frames : ℕ) (policy : PolicyName) (p : Option AnyPlayer) → CountsWhereServed frames policy skipped played p
     → option_map (λ q. all q []) p ≡ asked (serves policy frames) (missed_behind (length skipped) (skipped ++ played) (misses_of policy frames))
 where_told skipped played frames policy None h = ap (λ (b : Bool). asked b (missed_behind (length skipped) (skipped ++ played) (misses_of policy frames))) (sym h)
 where_told skipped played frames policy (Some p) h =
@@ -153,7 +172,7 @@ opens policies frames row is none each = record {
   of_policies = zip_weaker (λ policy named. Opens all frames.number policy (named.policy, named.player)) (CountsByName frames.number [] []) (λ policy named begins. (begins.0, begun frames.number policy named.player begins.1)) policies row.players.items each;
 }
 
-pub plays : (pages : List Key) (s t : Row) → t.frames ≡ s.frames → (s.references + length pages < 2 ^ 64 → t.references ≡ s.references + length pages)
+pub plays : (pages : List Reference) (s t : Row) → t.frames ≡ s.frames → (s.references + length pages < 2 ^ 64 → t.references ≡ s.references + length pages)
     → AllZip (λ s t. (t.policy ≡ s.policy) × Where (PlaysPages all pages) s.player t.player) s.players.items t.players.items → RowPlays pages s t
 plays pages s t same counted each = λ policies skipped played frames fit h.
     let sized : length (played ++ pages) ≡ length played + length pages = length-append played pages in

@@ -4,7 +4,7 @@ use Rattle.std.proofs.Common.{arith, ap, inl, inr, ◌∙◌}
 use Rattle.std.proofs.lemmas.Bool.Decides.{nat_tests}
 use Rattle.clock_policy.specs.FrameCounts.{least_frames, most_frames}
 use Rattle.page_policies.specs.declared.frames.Frames.{Frames}
-use Rattle.miss_counts.specs.Counted.{is_machines, serves, any_serves, any_served}
+use Rattle.miss_counts.specs.Counted.{is_machines, serves, any_serves, any_served, needs_writes, any_needs_writes}
 use Rattle.miss_counts.specs.declared.policy_name.PolicyName.{PolicyName}
 
 both : (a b : Bool) → (a && b) ≡ true → (a ≡ true) × (b ≡ true)
@@ -31,6 +31,24 @@ serving_found n i ps d h is before = before ∙ here i ps h is
     here : (i : ℕ) (ps : List PolicyName) → i < length ps → serves (slice_index_or ps i d) n ≡ true → any_serves (drop i ps) n ≡ true
     here i [] h is = absurd (omega (arith, h))
     here zero (p ∷ ps) h is = ap (λ (b : Bool). b || any_serves ps n) is
+    here (suc i) (p ∷ ps) h is = here i ps (omega (arith, h)) is
+
+-- the first policies do not go by writes
+
+pub writing_on : (i : ℕ) (ps : List PolicyName) (d : PolicyName) → i < length ps → needs_writes (slice_index_or ps i d) ≡ false → any_needs_writes ps ≡ any_needs_writes (drop i ps) → any_needs_writes ps ≡ any_needs_writes (drop (i + 1) ps)
+writing_on i ps d h is before = before ∙ further i ps h is ∙ ap (λ (k : ℕ). any_needs_writes (drop k ps)) (next i)
+  where
+    further : (i : ℕ) (ps : List PolicyName) → i < length ps → needs_writes (slice_index_or ps i d) ≡ false → any_needs_writes (drop i ps) ≡ any_needs_writes (drop (suc i) ps)
+    further i [] h is = absurd (omega (arith, h))
+    further zero (p ∷ ps) h is = ap (λ (b : Bool). b || any_needs_writes ps) is
+    further (suc i) (p ∷ ps) h is = further i ps (omega (arith, h)) is
+
+pub writing_found : (i : ℕ) (ps : List PolicyName) (d : PolicyName) → i < length ps → needs_writes (slice_index_or ps i d) ≡ true → any_needs_writes ps ≡ any_needs_writes (drop i ps) → any_needs_writes ps ≡ true
+writing_found i ps d h is before = before ∙ here i ps h is
+  where
+    here : (i : ℕ) (ps : List PolicyName) → i < length ps → needs_writes (slice_index_or ps i d) ≡ true → any_needs_writes (drop i ps) ≡ true
+    here i [] h is = absurd (omega (arith, h))
+    here zero (p ∷ ps) h is = ap (λ (b : Bool). b || any_needs_writes ps) is
     here (suc i) (p ∷ ps) h is = here i ps (omega (arith, h)) is
 
 -- none of them serves the first numbers

@@ -5,9 +5,6 @@ use Rattle.std.proofs.lemmas.List.{take_all, drop_all, append-nil}
 use Rattle.std.proofs.Common.{add-one, arith, ap, sym, subst, ◌∙◌}
 
 module _ {A B : Type 0} (R : A → B → Type 0) where
-  pub zip_none : AllZip R [] []
-  zip_none = tt
-
   more : (i : ℕ) (xs : List A) (d : A) (ys : List B) (y : B) → i < length xs → AllZip R (take i xs) ys → R (slice_index_or xs i d) y → AllZip R (take (suc i) xs) (ys ++ y ∷ [])
   more i [] d ys y h zipped is = absurd (omega (arith, h))
   more zero (x ∷ xs) d [] y h zipped is = (is, tt)
@@ -18,18 +15,6 @@ module _ {A B : Type 0} (R : A → B → Type 0) where
   -- one item more
   pub zip_more : (i : ℕ) (xs : List A) (d : A) (ys new : List B) (y : B) → i < length xs → AllZip R (take i xs) ys → R (slice_index_or xs i d) y → new ≡ ys ++ y ∷ [] → AllZip R (take (i + 1) xs) new
   zip_more i xs d ys new y h zipped is pushed = subst (λ (l : List B). AllZip R (take (i + 1) xs) l) (sym pushed) (rw add-one (more i xs d ys y h zipped is))
-
-  all : (i : ℕ) (xs : List A) → length xs ≤ i → take i xs ≡ xs
-  all i [] h = first i
-    where
-      first : (i : ℕ) → take i (let l : List A = [] in l) ≡ []
-      first zero = refl
-      first (suc i) = refl
-  all zero (x ∷ xs) h = absurd (omega (arith, h))
-  all (suc i) (x ∷ xs) h = ap (λ (l : List A). x ∷ l) (all i xs (omega (arith, h)))
-
-  pub zip_all : (i : ℕ) (xs : List A) (ys : List B) → length xs ≤ i → AllZip R (take i xs) ys → AllZip R xs ys
-  zip_all i xs ys h zipped = subst (λ (l : List A). AllZip R l ys) (all i xs h) zipped
 
 -- The first items are changed, and the others are the same.
 module _ {A : Type 0} (R : A → A → Type 0) where

@@ -1,3 +1,4 @@
+pub mod StringPages
 pub mod Counted
 pub mod FrameNumbers
 pub mod Guests

@@ -6,8 +6,8 @@ use Rattle.guest_strings.specs.declared.reference.Reference.{Reference}
 use Rattle.page_policies.specs.Strings.{is_page}
 
 -- whether the reference behind these misses, by what the policy misses of strings
-abbrev pub missed : (List Key → ℕ) → List Key → Key → Bool
-missed misses_of before p = nat_lt (misses_of before) (misses_of (before ++ p ∷ []))
+abbrev pub missed : (List Reference → ℕ) → List Reference → Reference → Bool
+missed misses_of before r = nat_lt (misses_of before) (misses_of (before ++ r ∷ []))
 
 -- whether the page was written since it came in, and is in a frame still
 abbrev pub is_dirty : Bool → (Key → Bool) → Key → Bool
@@ -22,11 +22,11 @@ abbrev pub dirty_after : Bool → (Key → Bool) → Reference → Key → Bool
 dirty_after is_miss dirty r q = cond (is_page r.page q) (r.is_written || is_dirty is_miss dirty r.page) (dirty q)
 
 -- how many pages of the string are written back, where these came before it and left these pages dirty
-abbrev pub written_from : (List Key → ℕ) → List Key → (Key → Bool) → List Reference → ℕ
+abbrev pub written_from : (List Reference → ℕ) → List Reference → (Key → Bool) → List Reference → ℕ
 written_from misses_of before dirty [] = 0
 written_from misses_of before dirty (r ∷ rs) =
-    dirtied (missed misses_of before r.page) dirty r
-    + written_from misses_of (before ++ r.page ∷ []) (dirty_after (missed misses_of before r.page) dirty r) rs
+    dirtied (missed misses_of before r) dirty r
+    + written_from misses_of (before ++ r ∷ []) (dirty_after (missed misses_of before r) dirty r) rs
 
-unfoldable pub write_backs : (List Key → ℕ) → List Reference → ℕ
+unfoldable pub write_backs : (List Reference → ℕ) → List Reference → ℕ
 write_backs misses_of string = written_from misses_of [] (λ q. false) string

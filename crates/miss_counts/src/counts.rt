@@ -4,14 +4,16 @@ ghost use Rattle.std.specs.Prelude.{◌≡◌, ◌↔◌, IfOk, Err, Some, None,
 ghost use Rattle.std.specs.List.{AllZip};
 ghost use Rattle.page_policies.specs.Optimal.{optimal_misses};
 ghost use Rattle.miss_counts.specs.Counted.{IsRow, asked, is_counted};
+ghost use Rattle.miss_counts.specs.StringPages.{pages_of};
 
 use crate::any_player::AnyPlayer;
+use crate::page_counts::pages_in;
 use crate::play_count::{PlayCount, counts_by};
 use crate::player::Counting;
 use crate::policy_name::PolicyName;
 use crate::policy_set::PolicySet;
 use crate::stages::{Stage, StageListener};
-use clock_policy::Key;
+use guest_strings::Reference;
 use page_policies::{Frames, PolicyRefusal};
 use std::alloc::{AllocError, Global};
 use whole_strings::optimum_counts;
@@ -39,7 +41,7 @@ pub struct PolicyCounts {
 /// What a string misses under a policy.
 #[derive(Drop)]
 struct MissCount<'s> {
-    string: &'s [Key],
+    string: &'s [Reference],
 }
 
 impl<'s> PlayCount for MissCount<'s> {
@@ -78,14 +80,15 @@ fn not_asked(alloc: Global, frames: &[Frames]) -> Result<Vec<Option<u64>>, Alloc
 fn floors_if(
     alloc: Global,
     frames: &[Frames],
-    string: &[Key],
+    string: &[Reference],
     is_wanted: bool,
 ) -> Result<Vec<Option<u64>>, AllocError>
     ensures { IfOk result (λ floors. floors.items ≡ map (λ f. asked is_wanted (optimal_misses
-        f.number string.now)) frames.now) }
+        f.number (pages_of string.now))) frames.now) }
 {
     if is_wanted {
-        let counts = optimum_counts(alloc, string, frames)?;
+        let pages = pages_in(alloc, string)?;
+        let counts = optimum_counts(alloc, pages.as_slice(), frames)?;
         let floors = as_asked(alloc, counts.as_slice())?;
         return Ok(floors);
     }
@@ -97,12 +100,12 @@ fn floors_if(
 fn counts_of(
     alloc: Global,
     frames: Frames,
-    string: &[Key],
+    string: &[Reference],
     optimum: Option<u64>,
     wanted: &PolicySet,
 ) -> Result<PolicyCounts, AllocError>
     requires { optimum ≡ asked wanted.now.optimum (optimal_misses frames.number
-        string.now) }
+        (pages_of string.now)) }
     ensures { IfOk result (IsRow wanted.now string.now frames) }
 {
     let counting = MissCount { string };
@@ -121,7 +124,7 @@ fn counts_of(
 pub fn rows_of<P: StageListener>(
     alloc: Global,
     frames: &[Frames],
-    string: &[Key],
+    string: &[Reference],
     wanted: &PolicySet,
     progress: &mut P,
 ) -> Result<Vec<PolicyCounts>, PolicyRefusal>
@@ -141,7 +144,7 @@ pub fn rows_of<P: StageListener>(
 fn count_rows<P: StageListener>(
     alloc: Global,
     frames: &[Frames],
-    string: &[Key],
+    string: &[Reference],
     wanted: &PolicySet,
     progress: &mut P,
 ) -> Result<Vec<PolicyCounts>, AllocError>

@@ -50,13 +50,13 @@ fn note(dirty: &mut HashSet<Key>, reference: Reference, is_miss: bool) -> Result
 }
 
 /// A page is used under a policy. Whether it missed.
-fn misses_one<C: Counting>(player: &mut C, page: Key) -> Result<bool, AllocError>
+fn misses_one<C: Counting>(player: &mut C, reference: Reference) -> Result<bool, AllocError>
     ensures miss { IfOk result (λ miss. miss ≡ nat_lt (C.all player.old []) (C.all player.new [])) }
     ensures few { OnOk result (C.all player.new [] ≤ C.all player.old [] + 1) }
-    ensures goes_on { OnOk result (GoesOn C.all (page ∷ []) player.old player.new) }
+    ensures goes_on { OnOk result (GoesOn C.all (reference ∷ []) player.old player.new) }
 {
     let before = player.count();
-    player.play(&[page])?;
+    player.play(&[reference])?;
     Ok(before < player.count())
 }
 
@@ -72,7 +72,7 @@ pub fn write_backs<C: Counting>(
     let mut dirty = none_dirty(alloc);
     let mut count = 0;
     'references: for reference in string {
-        let is_miss = misses_one(player, reference.page)?;
+        let is_miss = misses_one(player, *reference)?;
         count += note(&mut dirty, *reference, is_miss)?;
     }
     Ok(count)

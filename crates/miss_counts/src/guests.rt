@@ -2,9 +2,11 @@
 
 ghost use Rattle.std.specs.Prelude.{◌≡◌, ◌≤◌, IfOk, OnOk, Err, true, false, length, map};
 ghost use Rattle.std.specs.Prelude.{option_map};
+ghost use Rattle.guest_strings.specs.Slices.{guest_string};
 ghost use Rattle.guest_strings.specs.ToCome.{to_come};
 ghost use Rattle.miss_counts.specs.Counted.{is_counted};
-ghost use Rattle.miss_counts.specs.Guests.{IsTable, guest_pages, pages_of};
+ghost use Rattle.miss_counts.specs.Guests.{IsTable};
+ghost use Rattle.miss_counts.specs.StringPages.{pages_of};
 ghost use Rattle.miss_counts.specs.FrameNumbers.{numbers_asked};
 ghost use Rattle.whole_strings.specs.PageCounts.{page_count};
 
@@ -14,27 +16,26 @@ use crate::page_counts::count_pages;
 use crate::policy_set::PolicySet;
 use crate::stages::{Stage, StageListener};
 use crate::table_size::{TableSize, frames_for_string};
-use clock_policy::Key;
 use flat_machine::FlatProcess;
-use guest_strings::{AccessKinds, GuestString};
+use guest_strings::{AccessKinds, GuestString, Reference};
 use machine_limits::MOST_PROCESSES;
 use page_policies::{Frames, PolicyRefusal};
 use std::alloc::{AllocError, Global};
 
-/// The pages of a string, to its end.
-pub fn pages_of<P: StageListener>(
+/// The references of a string, to its end.
+pub fn references_of<P: StageListener>(
     alloc: Global,
     mut guests: GuestString,
     progress: &mut P,
-) -> Result<Vec<Key>, AllocError>
-    ensures { IfOk result (λ pages. pages.items ≡ pages_of (to_come guests)) }
+) -> Result<Vec<Reference>, AllocError>
+    ensures { IfOk result (λ string. string.items ≡ to_come guests) }
 {
-    let mut pages = Vec::new(alloc);
+    let mut string = Vec::new(alloc);
     'references: while let Some(reference) = guests.next()? {
-        pages.push(reference.page)?;
-        progress.tell(Stage::References(pages.len() as u64));
+        string.push(reference)?;
+        progress.tell(Stage::References(string.len() as u64));
     }
-    Ok(pages)
+    Ok(string)
 }
 
 /// What the string of guests misses, of the references that are kept, by slices of so many instructions, of up to so many
@@ -50,15 +51,16 @@ pub fn guest_rows<P: StageListener>(
     progress: &mut P,
 ) -> Result<Vec<PolicyCounts>, PolicyRefusal>
     requires { length processes.items ≤ MOST_PROCESSES }
-    ensures rows { IfOk result (λ rows. IsTable wanted.now (guest_pages accesses slice limit
+    ensures rows { IfOk result (λ rows. IsTable wanted.now (guest_string accesses slice limit
         processes.items) (option_map (λ s. s.items) sizes) rows.items) }
-    ensures some { OnOk result (is_counted wanted.now (numbers_asked (page_count (guest_pages
-        accesses slice limit processes.items)) (option_map (λ s. s.items) sizes)) ≡ true) }
+    ensures some { OnOk result (is_counted wanted.now (numbers_asked (page_count (pages_of
+        (guest_string accesses slice limit processes.items))) (option_map (λ s. s.items) sizes)) ≡ true) }
     ensures bad_size { result ≡ Err PolicyRefusal.BadSize → is_counted wanted.now (numbers_asked
-        (page_count (guest_pages accesses slice limit processes.items)) (option_map (λ s. s.items)
+        (page_count (pages_of (guest_string accesses slice limit
+        processes.items))) (option_map (λ s. s.items)
         sizes)) ≡ false }
 {
-    let string = pages_of(
+    let string = references_of(
         alloc,
         GuestString::new(processes, accesses, slice, limit),
         progress,
@@ -77,10 +79,10 @@ pub fn guest_rows<P: StageListener>(
 fn asked_frames(
     alloc: Global,
     sizes: &Option<Vec<TableSize>>,
-    string: &[Key],
+    string: &[Reference],
 ) -> Result<Vec<Frames>, AllocError>
     ensures { IfOk result (λ all. map (λ f. f.number) all.items ≡ numbers_asked (page_count
-        string.now) (option_map (λ s. s.items) sizes.now)) }
+        (pages_of string.now)) (option_map (λ s. s.items) sizes.now)) }
 {
     match sizes {
         Some(sizes) => frames_for_string(alloc, sizes.as_slice(), string),

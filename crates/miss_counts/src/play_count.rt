@@ -1,7 +1,7 @@
 //! One count under each policy, whatever is counted.
 
 ghost use Rattle.std.specs.Prelude.{◌≡◌, List, [], true, IfOk};
-ghost use Rattle.clock_policy.specs.declared.key.Key.{Key};
+ghost use Rattle.guest_strings.specs.declared.reference.Reference.{Reference};
 ghost use Rattle.miss_counts.specs.Counted.{IsCounted, asked, misses_of, serves};
 
 use crate::any_player::AnyPlayer;
@@ -14,15 +14,15 @@ use std::alloc::{AllocError, Global};
 /// What is counted while a policy serves a string.
 pub trait PlayCount {
     ghost use Rattle.std.specs.Prelude.{ℕ, List};
-    ghost use Rattle.clock_policy.specs.declared.key.Key.{Key};
+    ghost use Rattle.guest_strings.specs.declared.reference.Reference.{Reference};
 
     /// The count under a policy that misses so many of each string.
-    ghost counts: { Self → (List Key → ℕ) → ℕ };
+    ghost counts: { Self → (List Reference → ℕ) → ℕ };
 
     /// The count under a policy that begins.
     fn count_under(&self, alloc: Global, player: &mut AnyPlayer) -> Result<u64, AllocError>
         requires { ⟦<AnyPlayer as Counting>⟧.all player.old [] ≡ 0 }
-        ensures { IfOk result (λ count. (misses : List Key → ℕ) → ((string : List Key) →
+        ensures { IfOk result (λ count. (misses : List Reference → ℕ) → ((string : List Reference) →
             ⟦<AnyPlayer as Counting>⟧.all player.old string ≡ misses string) → count ≡ counts
             self.now misses) };
 }

@@ -1,10 +1,14 @@
 //! The policies by name.
 
-ghost use Rattle.std.specs.Prelude.{◌≡◌, map};
-ghost use Rattle.miss_counts.specs.Counted.{any_served, any_serves, serves};
+ghost use Rattle.std.specs.Prelude.{◌≡◌, ◌↔◌, false, map, IsNone};
+ghost use Rattle.miss_counts.specs.Counted.{any_needs_writes, any_served, any_serves, needs_writes};
+ghost use Rattle.miss_counts.specs.Counted.{serves};
 
+use kernel_policies::TwoListsParts;
 use page_policies::{Frames, USUAL_SEED};
 use std::fmt;
+use textbook_policies::{GClockCounts, LruKUses};
+use ticked_policies::{AgingTicks, Arrival, NruTicks, WorkingSetTime};
 use tiny_lfu::{SketchWidth, TinyLfuShares};
 use younger_policies::{LirsShares, MovedCount, S3FifoShares, TwoQueueShares};
 
@@ -22,13 +26,23 @@ pub enum PolicyName {
     Sieve,
     S3Fifo(S3FifoShares),
     WTinyLfu(TinyLfuShares),
+    Car,
+    LruK(LruKUses),
+    GClock(GClockCounts),
+    Lfu,
+    Mru,
+    SecondChance(Arrival),
+    Nru(NruTicks),
+    Aging(AgingTicks),
+    WsClock(WorkingSetTime),
+    TwoLists(TwoListsParts),
     /// By a generator of this seed.
     Random(u64),
 }
 
 impl PolicyName {
     /// The policies in the order of a table's columns, each as it is where nothing else is asked for.
-    pub const ALL: [PolicyName; 12] = [
+    pub const ALL: [PolicyName; 22] = [
         PolicyName::Fifo,
         PolicyName::Clock,
         PolicyName::Lru,
@@ -40,6 +54,16 @@ impl PolicyName {
         PolicyName::Sieve,
         PolicyName::S3Fifo(S3FifoShares::USUAL),
         PolicyName::WTinyLfu(TinyLfuShares::USUAL),
+        PolicyName::Car,
+        PolicyName::LruK(LruKUses::USUAL),
+        PolicyName::GClock(GClockCounts::USUAL),
+        PolicyName::Lfu,
+        PolicyName::Mru,
+        PolicyName::SecondChance(Arrival::Marked),
+        PolicyName::Nru(NruTicks::USUAL),
+        PolicyName::Aging(AgingTicks::USUAL),
+        PolicyName::WsClock(WorkingSetTime::USUAL),
+        PolicyName::TwoLists(TwoListsParts::USUAL),
         PolicyName::Random(USUAL_SEED),
     ];
 
@@ -57,7 +81,28 @@ impl PolicyName {
             PolicyName::Sieve => "sieve",
             PolicyName::S3Fifo(_) => "s3-fifo",
             PolicyName::WTinyLfu(_) => "w-tinylfu",
+            PolicyName::Car => "car",
+            PolicyName::LruK(_) => "lru-k",
+            PolicyName::GClock(_) => "gclock",
+            PolicyName::Lfu => "lfu",
+            PolicyName::Mru => "mru",
+            PolicyName::SecondChance(_) => "second-chance",
+            PolicyName::Nru(_) => "nru",
+            PolicyName::Aging(_) => "aging",
+            PolicyName::WsClock(_) => "wsclock",
+            PolicyName::TwoLists(_) => "two-lists",
             PolicyName::Random(_) => "random",
+        }
+    }
+
+    /// Whether it goes by which references write.
+    pub fn needs_writes(self) -> bool
+        ensures { result ≡ needs_writes self }
+    {
+        match self {
+            PolicyName::Nru(_) => true,
+            PolicyName::WsClock(_) => true,
+            _ => false,
         }
     }
 
@@ -82,6 +127,13 @@ impl fmt::Display for PolicyName {
             PolicyName::Lirs(shares) => write_lirs(shares, f),
             PolicyName::S3Fifo(shares) => write_s3_fifo(shares, f),
             PolicyName::WTinyLfu(shares) => write_tiny_lfu(shares, f),
+            PolicyName::LruK(uses) => write_lru_k(uses, f),
+            PolicyName::GClock(counts) => write_g_clock(counts, f),
+            PolicyName::SecondChance(arrival) => write_arrival(arrival, f),
+            PolicyName::Nru(ticks) => write_given("every", ticks.every, f),
+            PolicyName::Aging(ticks) => write_aging(ticks, f),
+            PolicyName::WsClock(set) => write_given("tau", set.tau, f),
+            PolicyName::TwoLists(parts) => write_two_lists(parts, f),
             PolicyName::Random(seed) => write_part("seed", seed, USUAL_SEED, f),
             _ => Ok(()),
         }
@@ -147,6 +199,47 @@ fn write_tiny_lfu<W: fmt::Write>(shares: TinyLfuShares, f: &mut fmt::Formatter<W
     )
 }
 
+fn write_lru_k<W: fmt::Write>(uses: LruKUses, f: &mut fmt::Formatter<W>) -> fmt::Result {
+    let usual = LruKUses::USUAL;
+    write_part("k", u64::from(uses.k), u64::from(usual.k), f)
+}
+
+fn write_g_clock<W: fmt::Write>(counts: GClockCounts, f: &mut fmt::Formatter<W>) -> fmt::Result {
+    let usual = GClockCounts::USUAL;
+    write_part("most", u64::from(counts.most), u64::from(usual.most), f)?;
+    write_part("first", u64::from(counts.first), u64::from(usual.first), f)
+}
+
+fn write_arrival<W: fmt::Write>(arrival: Arrival, f: &mut fmt::Formatter<W>) -> fmt::Result {
+    match arrival {
+        Arrival::Marked => Ok(()),
+        Arrival::Clear => f.write_str(":arrival=clear"),
+    }
+}
+
+fn write_aging<W: fmt::Write>(ticks: AgingTicks, f: &mut fmt::Formatter<W>) -> fmt::Result {
+    let usual = AgingTicks::USUAL;
+    write_given("every", ticks.every, f)?;
+    write_part("bits", u64::from(ticks.bits), u64::from(usual.bits), f)
+}
+
+fn write_two_lists<W: fmt::Write>(parts: TwoListsParts, f: &mut fmt::Formatter<W>) -> fmt::Result {
+    write_given("ratio", parts.ratio, f)?;
+    write_arrival(parts.arrival, f)
+}
+
+/// What is asked for by this name, where it does not follow from the number of frames.
+fn write_given<W: fmt::Write>(
+    name: &str,
+    given: Option<u32>,
+    f: &mut fmt::Formatter<W>,
+) -> fmt::Result {
+    match given {
+        Some(given) => write!(f, ":{name}={given}"),
+        None => Ok(()),
+    }
+}
+
 /// What is asked for by this name, where it is not the usual.
 fn write_part<W: fmt::Write>(
     name: &str,
@@ -158,6 +251,19 @@ fn write_part<W: fmt::Write>(
         return Ok(());
     }
     write!(f, ":{name}={given}")
+}
+
+/// The first policy that goes by which references write.
+#[tactic(auto, using(crate::proofs::ServingLaws::writing_on, crate::proofs::ServingLaws::writing_found))]
+pub fn first_writing(policies: &[PolicyName]) -> Option<PolicyName>
+    ensures { IsNone result ↔ (any_needs_writes policies.now ≡ false) }
+{
+    'policies: for policy in policies {
+        if policy.needs_writes() {
+            return Some(*policy);
+        }
+    }
+    None
 }
 
 /// Whether one of the policies serves so many frames.

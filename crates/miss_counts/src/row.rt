@@ -3,7 +3,7 @@
 ghost use Rattle.std.specs.Prelude.{◌≡◌, ◌+◌, ◌<◌, ◌^◌, None, true, false, List, [], length, map};
 ghost use Rattle.std.specs.Prelude.{option_map, IfOk, OnOk};
 ghost use Rattle.std.specs.List.{AllZip};
-ghost use Rattle.clock_policy.specs.declared.key.Key.{Key};
+ghost use Rattle.guest_strings.specs.declared.reference.Reference.{Reference};
 ghost use Rattle.miss_counts.specs.Counted.{serves};
 ghost use Rattle.miss_counts.specs.Playing.{Begins, Opens, PlaysPages, StartsAnew, Where};
 
@@ -11,7 +11,7 @@ use crate::any_player::AnyPlayer;
 use crate::counts::{PolicyCount, PolicyCounts};
 use crate::player::Counting;
 use crate::policy_name::PolicyName;
-use clock_policy::Key;
+use guest_strings::Reference;
 use page_policies::Frames;
 use std::alloc::{AllocError, Global};
 
@@ -48,17 +48,17 @@ impl Row {
         })
     }
 
-    /// Some pages are used, one after another. A count stops at the greatest number that there is.
-    pub fn play(&mut self, pages: &[Key]) -> Result<(), AllocError>
+    /// Pages are used, one after another. A count stops at the greatest number that there is.
+    pub fn play(&mut self, references: &[Reference]) -> Result<(), AllocError>
         ensures frames { OnOk result (self.new.frames ≡ self.old.frames) }
-        ensures references { OnOk result (self.old.references + length pages.now < 2 ^ 64 →
-            self.new.references ≡ self.old.references + length pages.now) }
+        ensures references { OnOk result (self.old.references + length references.now < 2 ^ 64 →
+            self.new.references ≡ self.old.references + length references.now) }
         ensures players { OnOk result (AllZip (λ s t. (t.policy ≡ s.policy) × Where (PlaysPages
-            ⟦<AnyPlayer as Counting>⟧.all pages.now) s.player t.player)
+            ⟦<AnyPlayer as Counting>⟧.all references.now) s.player t.player)
             self.old.players.items self.new.players.items) }
     {
-        self.references = self.references.saturating_add(pages.len() as u64);
-        play_each(&mut self.players, pages)
+        self.references = self.references.saturating_add(references.len() as u64);
+        play_each(&mut self.players, references)
     }
 
     /// Begins to count anew. What the policies have in frames stays.
@@ -137,12 +137,12 @@ fn players_of(
     Ok(players)
 }
 
-/// Some pages are used under a policy, if it is there.
-fn play_one<P: Counting>(player: &mut Option<P>, pages: &[Key]) -> Result<(), AllocError>
-    ensures { OnOk result (Where (PlaysPages P.all pages.now) player.old player.new) }
+/// Pages are used under a policy, if it is there.
+fn play_one<P: Counting>(player: &mut Option<P>, references: &[Reference]) -> Result<(), AllocError>
+    ensures { OnOk result (Where (PlaysPages P.all references.now) player.old player.new) }
 {
     match player {
-        Some(player) => player.play(pages),
+        Some(player) => player.play(references),
         None => Ok(()),
     }
 }
@@ -167,16 +167,16 @@ fn count_so_far<P: Counting>(player: &Option<P>) -> Option<u64>
     }
 }
 
-/// Some pages are used under each of the policies.
+/// Pages are used under each of the policies.
 fn play_each<P: Counting>(
     players: &mut Vec<NamedPlayer<P>>,
-    pages: &[Key],
+    references: &[Reference],
 ) -> Result<(), AllocError>
-    ensures { OnOk result (AllZip (λ s t. (t.policy ≡ s.policy) × Where (PlaysPages P.all pages.now)
+    ensures { OnOk result (AllZip (λ s t. (t.policy ≡ s.policy) × Where (PlaysPages P.all references.now)
         s.player t.player) players.old.items players.new.items) }
 {
     'players: for named in players.iter_mut() {
-        play_one(&mut named.player, pages)?;
+        play_one(&mut named.player, references)?;
     }
     Ok(())
 }

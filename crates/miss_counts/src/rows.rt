@@ -8,7 +8,7 @@ ghost use Rattle.miss_counts.specs.Replayed.{RowsPlay, RowsSkip, RowsTell};
 use crate::counts::PolicyCounts;
 use crate::policy_name::PolicyName;
 use crate::row::Row;
-use clock_policy::Key;
+use guest_strings::Reference;
 use page_policies::Frames;
 use std::alloc::{AllocError, Global};
 
@@ -35,12 +35,12 @@ impl Rows {
         Ok(Rows { rows })
     }
 
-    /// Some pages are used, one after another.
+    /// Pages are used, one after another.
     #[tactic(auto, using(crate::proofs::RowsLaws::rows_play))]
-    pub fn play(&mut self, pages: &[Key]) -> Result<(), AllocError>
-        ensures { OnOk result (RowsPlay pages.now self.old self.new) }
+    pub fn play(&mut self, references: &[Reference]) -> Result<(), AllocError>
+        ensures { OnOk result (RowsPlay references.now self.old self.new) }
     {
-        play_each(&mut self.rows, pages)?;
+        play_each(&mut self.rows, references)?;
         Ok(())
     }
 
@@ -71,10 +71,10 @@ fn new_row(alloc: Global, frames: Frames, policies: &[PolicyName]) -> Result<Row
     Ok(row)
 }
 
-fn play_row(row: &mut Row, pages: &[Key]) -> Result<(), AllocError>
-    ensures { OnOk result (RowPlays pages.now row.old row.new) }
+fn play_row(row: &mut Row, references: &[Reference]) -> Result<(), AllocError>
+    ensures { OnOk result (RowPlays references.now row.old row.new) }
 {
-    row.play(pages)?;
+    row.play(references)?;
     Ok(())
 }
 
@@ -91,11 +91,11 @@ fn counts_of_row(alloc: Global, row: &Row) -> Result<PolicyCounts, AllocError>
     Ok(counts)
 }
 
-fn play_each(rows: &mut Vec<Row>, pages: &[Key]) -> Result<(), AllocError>
-    ensures { OnOk result (AllZip (RowPlays pages.now) rows.old.items rows.new.items) }
+fn play_each(rows: &mut Vec<Row>, references: &[Reference]) -> Result<(), AllocError>
+    ensures { OnOk result (AllZip (RowPlays references.now) rows.old.items rows.new.items) }
 {
     'rows: for row in rows.iter_mut() {
-        play_row(row, pages)?;
+        play_row(row, references)?;
     }
     Ok(())
 }

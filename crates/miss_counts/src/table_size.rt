@@ -2,10 +2,11 @@
 
 ghost use Rattle.std.specs.Prelude.{◌≡◌, IfOk, map};
 ghost use Rattle.miss_counts.specs.FrameNumbers.{frames_for, has_part, part_of};
+ghost use Rattle.miss_counts.specs.StringPages.{pages_of};
 ghost use Rattle.whole_strings.specs.PageCounts.{page_count};
 
 use crate::page_counts::count_pages;
-use clock_policy::Key;
+use guest_strings::Reference;
 use page_policies::{Frames, MOST_POLICY_FRAMES};
 use std::alloc::{AllocError, Global};
 
@@ -77,10 +78,10 @@ pub fn frames_for(
 pub fn frames_for_string(
     alloc: Global,
     sizes: &[TableSize],
-    string: &[Key],
+    string: &[Reference],
 ) -> Result<Vec<Frames>, AllocError>
     ensures { IfOk result (λ all. map (λ f. f.number) all.items ≡ map (frames_for (page_count
-        string.now)) sizes.now) }
+        (pages_of string.now))) sizes.now) }
 {
     if !has_part(sizes) {
         return frames_for(alloc, sizes, 0);

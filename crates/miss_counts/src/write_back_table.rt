@@ -2,7 +2,6 @@
 
 ghost use Rattle.std.specs.Prelude.{◌≡◌, ◌↔◌, Err, List, [], false, map, IfOk};
 ghost use Rattle.std.specs.List.{AllZip};
-ghost use Rattle.clock_policy.specs.declared.key.Key.{Key};
 ghost use Rattle.miss_counts.specs.Counted.{any_served};
 ghost use Rattle.miss_counts.specs.WriteBacks.{write_backs};
 ghost use Rattle.miss_counts.specs.WrittenBack.{IsWrittenBack};

@@ -32,7 +32,7 @@ const SPREAD: u32 = 0x9E37_79B1;
 fn first_slot(process: u32, slots: usize) -> usize
     ensures { result ≡ first_slot process slots }
 {
-    (process.wrapping_mul(SPREAD) as usize).wrapping_mul(slots) >> 32
+    (u64::from(process.wrapping_mul(SPREAD)).wrapping_mul(slots as u64) >> 32) as usize
 }
 
 /// A table with a slot for each page, by its number, and a map of the pages whose slot was taken.

@@ -1,3 +1,4 @@
+-- A page's state lends the bytes of its frame, if it has one.
 use Rattle.std.specs.Prelude.{ℕ, List, Option, Some, None}
 use Rattle.std.specs.Borrow.{LendsIf, MutBor, Fml, Array, u8, RattleType}
 use Rattle.std.specs.declared.sync.ledger.Ledger.{Ghosts as LedgerGhosts}

@@ -1,3 +1,4 @@
+-- What callers see of a page's state.
 use Rattle.page_memory.specs.Pages.{Page}
 use Rattle.frame_pool.specs.FrameValue.{zero_bytes}
 use Rattle.page_store.specs.declared.state.Origin.{Origin}

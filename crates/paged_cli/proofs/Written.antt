@@ -5,7 +5,7 @@ use Rattle.std.proofs.KnownBytes.{Appends-nil, Appends-trans}
 use Rattle.status_cell.specs.declared.status.Status.{Status}
 use Rattle.paged_cli.specs.StatusText.{status_text, statuses_text}
 
--- what was written of the processes so far, with the rest, is what is to be told of them all
+-- what was written of the processes so far, with the rest, is what is to be printed of them all
 pub record Tells (first new : Option (List ℕ)) (all : List Status) (number : ℕ) (rest : List Status) : Type 0 where
   pub written : List ℕ
   pub appended : Appends first new written

@@ -1,4 +1,4 @@
--- What the command that runs machines does with what it is asked for. `gives` tells, of a name, the bytes that a file of it may be found to
+-- What the command that runs machines does with what it is asked for. `gives` says, of a name, the bytes that a file of it may be found to
 -- hold; `old` and `new` are what stands in the output before and after.
 use Rattle.std.specs.Prelude.{ℕ, List, Option}
 use Rattle.command_line.specs.declared.request.RunRequest.{RunRequest}

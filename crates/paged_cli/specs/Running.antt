@@ -17,7 +17,7 @@ use Rattle.swap_slots.specs.Slot.{zero_content}
 abbrev pub CameTo : {S : Type 0} → Type 0 → ℕ → List S → List Start → CrewRequest → RunReport → Type 0
 CameTo {S} honest frames slots starts wanted run = IsReportOf S honest frames (length slots) starts wanted run
 
--- the same on new slots in files, which are not honest, by the names that begin with a prefix; `makes` tells under which names an open
+-- the same on new slots in files, which are not honest, by the names that begin with a prefix; `makes` says under which names an open
 -- file may have been made
 pub record RunsFiles {F : Type 0} (makes : List ℕ → F → Type 0) (prefix : List ℕ) (frames slots : ℕ) (starts : List Start) (wanted : CrewRequest) (run : RunReport) : Type 0 where
   pub files : List (FileSlotValue F)

@@ -1,4 +1,4 @@
-//! How far processes are, told while they run.
+//! How far processes are, printed while they run.
 
 ghost use Rattle.std.specs.Prelude.{◌≡◌, OnOk};
 ghost use Rattle.std.specs.Io.KnownBytes.{Appends};
@@ -33,6 +33,10 @@ impl<R: Wait, E: Write> Gate for StatusLines<'_, R, E> {
     fn before_load(&self, _key: Key) {}
 
     fn after_slice(&self, _process: u32, _hart: u32, _ran: u32) {}
+
+    fn wants_statuses(&self) -> bool {
+        true
+    }
 
     fn after_free(&self, statuses: &[Status]) {
         let mut err = self.err.lock(self.rt);

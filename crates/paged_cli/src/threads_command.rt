@@ -18,7 +18,7 @@ use std::sync::Wait;
 use std::thread::Threads;
 
 /// Runs a process for each image on a new machine by so many workers until all have ended, writes how it went, and answers the exit
-/// status. Files for the slots are made once images and input are read. While the processes run, lines that tell how far they are may
+/// status. Files for the slots are made once images and input are read. While the processes run, lines that say how far they are may
 /// be written to `err`. Changed pages may be written to their slots ahead.
 pub fn run_on_threads<
     'a,
@@ -79,7 +79,7 @@ where
     run_asked(rt, request, handed, wanted, &lines)
 }
 
-/// Runs processes on the machine that is asked for, and tells what it has come to.
+/// Runs processes on the machine that is asked for, and prints what it has come to.
 fn run_asked<'a, R: Folder + AllocGlobal + Threads + Wait + Sync, G: Gate + Sync>(
     rt: &R,
     request: &RunRequest<'a>,

@@ -35,9 +35,6 @@ module _ {S : Type 0} where
   abbrev pub GivesNone : PagedValue S → PagedValue S → Type 0
   GivesNone old new = (number : ℕ) → stage_in new number ≡ Some Purged → stage_in old number ≡ Some Purged
 
-  pub none_then : (old between new : PagedValue S) → GivesNone old between → GivesNone between new → GivesNone old new
-  none_then old between new first second number given = first number (second number given)
-
   pub same_none : (old new : PagedValue S) → new.pages ≡ old.pages → GivesNone old new
   same_none old new same number given = ap (λ pages. option_map stage_of (page_at pages number)) (sym same) ∙ given
 
@@ -97,10 +94,6 @@ module _ {S : Type 0} where
   absent_live (place.Saving frame mark) now how e = absurd how
   absent_live (place.Away copy) now how e = away_live now how e
   absent_live place.Purged now how e = absurd how
-
-  -- nothing changes, or what harts' caches hold
-  pub still_none : (old new : PagedValue S) → new ≡ old → GivesNone old new
-  still_none old new same = same_none old new (ap (λ (m : PagedValue S). m.pages) same)
 
   pub emptied_none : (memory : PagedValue S) → GivesNone memory (emptied memory)
   emptied_none memory = same_none memory (emptied memory) refl

@@ -1,26 +1,19 @@
 -- What a look at bytes of a page leaves, and what its refusal tells.
-use Rattle.std.proofs.Common.{◌≡◌, ℕ, cond, List, Option, Some, None, option_map, is_some, inl, inr, refl, sym, ap, ◌∙◌, arith}
+use Rattle.std.proofs.Common.{◌≡◌, ℕ, cond, List, Option, Some, None, option_map, is_some, inl, inr, refl, sym, ap, ◌∙◌}
 use Rattle.std.proofs.lemmas.Bool.Decides.{eqb_tells}
-use Rattle.swap_slots.specs.Slot.{Rose}
 use Rattle.page_memory.specs.Words.{page_number}
-use Rattle.page_store.specs.Moves.{IfAway}
 use Rattle.page_store.specs.PageValue.{PageValue, Place, page_state_of}
 use Rattle.page_store.specs.PageValue as place
 use Rattle.page_store.specs.declared.state.PageState.{PageState}
 use Rattle.page_store.specs.declared.state.PageState.TheVariants as stage
 use Rattle.paged_memory.specs.Calls.{ChangesBy}
-use Rattle.paged_memory.specs.moves.Filling.{FailsToLoad, StaysAbsent}
+use Rattle.paged_memory.specs.moves.Filling.{StaysAbsent}
 use Rattle.paged_memory.specs.moves.Moving.{DoesNotShow, LeavesLookedAt}
 use Rattle.paged_memory.specs.Paged.{PagedValue, page_at}
 use Rattle.paged_memory.specs.Peeking.{LeavesPage, LeavesPlace}
 use Rattle.paged_memory.proofs.move_laws.StillLaws.{still_where}
 use Rattle.paged_memory.specs.Whole.{rights_in, stage_in}
 use Rattle.paged_memory.specs.declared.peeking.PeekFault.TheVariants as fault
-
--- a slot that counts no failures fails never
-never_rose : Rose 0 0 → ⊥
-never_rose (inl less) = omega arith
-never_rose (inr most) = omega (arith, most)
 
 module _ {S : Type 0} where
   abbrev stage_of : Option (PageValue S) → Option PageState
@@ -74,25 +67,3 @@ module _ {S : Type 0} where
         by_page : (o : Option (PageValue S)) → option_map (λ (p : PageValue S). p.place) o ≡ Some place.Purged → stage_of o ≡ Some stage.Purged
         by_page None is = cc
         by_page (Some page) is = let at : page.place ≡ place.Purged = cc in ap (λ p. Some (page_state_of p)) at
-
-    failed_never : (old new : PageValue S) → FailsToLoad held honest (λ _. 0) old new → ⊥
-    failed_never old new fails = by old.place new.place fails.failed
-      where
-        after : (p : Place S) → IfAway p (λ _. Rose 0 0) → ⊥
-        after place.Fresh failed = absurd failed
-        after (place.Resident frame slot) failed = absurd failed
-        after (place.Leaving frame slot mark) failed = absurd failed
-        after (place.Saving frame mark) failed = absurd failed
-        after (place.Away slot) failed = never_rose failed
-        after place.Purged failed = absurd failed
-
-        by : (p q : Place S) → IfAway p (λ slot. IfAway q (λ _. Rose 0 0)) → ⊥
-        by place.Fresh q failed = absurd failed
-        by (place.Resident frame slot) q failed = absurd failed
-        by (place.Leaving frame slot mark) q failed = absurd failed
-        by (place.Saving frame mark) q failed = absurd failed
-        by (place.Away slot) q failed = after q failed
-        by place.Purged q failed = absurd failed
-
-    pub never_fails : (address : ℕ) (old new : PagedValue S) → DoesNotShow held honest (λ _. 0) address old new fault.Device → ⊥
-    never_fails address old new why = failed_never why.page why.page' why.how

@@ -3,7 +3,7 @@ use Rattle.std.proofs.Common.{◌≡◌, ◌<◌, ◌≤◌, ℕ, ◌+◌, lengt
 use Rattle.std.specs.Prelude.{◌^◌, option_and_then, Result}
 use Rattle.page_memory.specs.Memory.{byte_at}
 use Rattle.page_memory.specs.Words.{page_number, page_offset}
-use Rattle.paged_memory.proofs.PeekLaws.{looked_stage, never_fails, not_mapped, was_given_up}
+use Rattle.paged_memory.proofs.PeekLaws.{looked_stage, not_mapped, was_given_up}
 use Rattle.paged_memory.specs.Whole.{stage_in}
 use Rattle.paged_memory.specs.declared.peeking.PeekFault.{PeekFault}
 use Rattle.paged_memory.specs.declared.peeking.PeekFault.TheVariants as fault
@@ -25,11 +25,6 @@ use Rattle.paged_target.proofs.Showing.{ShowsFlat, page_shown, byte_shown}
 -- an address lies in one of 2^20 pages
 pub page_small : (address : ℕ) → address < 2 ^ 32 → page_number address < 2 ^ 20
 page_small address fits = omega (arith, fits)
-
--- what is there is something
-missing_there : {A : Type 0} (o : Option A) → IsSome o → o ≡ None → ⊥
-missing_there None there e = cc
-missing_there (Some x) there e = cc
 
 no_byte : {A : Type 0} (o : Option A) → is_some o ≡ false → o ≡ None
 no_byte None e = refl
@@ -98,9 +93,3 @@ module _ {S : Type 0} (held : S → List ℕ) (honest : Type 0) where
 
     pub given_back_never : IsIntact old → (answer : Result (Unit {0}) PeekFault) → answer ≡ Err fault.Purged → PeeksAt held honest failures 0 address room bytes (Some answer) old new → ⊥
     given_back_never intact answer is given = intact (page_number address) (given_back_is (subst (λ r. PeeksAt held honest failures 0 address room bytes (Some r) old new) is given))
-
-    pub process_there : IsSome (slice_get old.processes 0) → PeeksAt held honest failures 0 address room bytes None old new → ⊥
-    process_there there peeks = missing_there (slice_get old.processes 0) there peeks.0
-
-  pub device_fails_never : (address : ℕ) (room bytes : List (Option ℕ)) (old new : CoreValue S) → PeeksAt held honest (λ _. 0) 0 address room bytes (Some (Err fault.Device)) old new → ⊥
-  device_fails_never address room bytes old new peeks = never_fails held honest address peeks.one.process.memory peeks.one.process'.memory peeks.one.how.refused

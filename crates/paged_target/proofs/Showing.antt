@@ -12,8 +12,7 @@ use Rattle.paged_memory.specs.Whole.{stage_in}
 use Rattle.env_calls.specs.Environment.{any_live, most_harts, next_live}
 use Rattle.env_calls.proofs.LiveLaws.{next_is_live, next_is_some}
 use Rattle.flat_machine.specs.ByTurns.{turn_after}
-use Rattle.flat_machine.specs.Process.{Process, IsWhole, hart_registers, is_live, may_step, opening, flat_run}
-use Rattle.flat_machine.proofs.StepLaws.{has_no_ending}
+use Rattle.flat_machine.specs.Process.{Process, IsWhole, hart_registers, is_live, opening, flat_run}
 use Rattle.flat_machine.specs.Schedule.{written_out}
 use Rattle.flat_machine.specs.declared.end.End.{End}
 use Rattle.space_core.specs.StandsFor.{SpaceValue, StandsFor, flat_with, own_ending}
@@ -25,7 +24,6 @@ use Rattle.machine_core.specs.Faithful.{IsFaithful}
 use Rattle.machine_core.specs.Machine.{CoreValue}
 use Rattle.machine_core.specs.Opening.{AllBegin}
 use Rattle.machine_core.specs.Reading.{is_live_in}
-use Rattle.debug_core.specs.Progresses.{ended_full}
 use Rattle.paged_target.specs.Marks.{marks_at, marks_in}
 use Rattle.paged_target.specs.Shown.{flat_at, flat_in, flat_of, no_process, shown_as}
 use Rattle.serial_driver.proofs.WholeLaws.{whole_from_opening}
@@ -126,9 +124,6 @@ module _ {S : Type 0} (held : S → List ℕ) where
         let is = e ∙ ap (option_map (λ (side : SpaceValue S). side.running.ending)) shows.found in
         let same : end ≡ shows.side.running.ending = cc in
         ap own_ending same ∙ ap (λ (p : Process). p.ending) (sym shows.flat)
-
-    pub end_there : option_map (λ (side : SpaceValue S). side.running.ending) (slice_get core.processes 0) ≡ None → ⊥
-    end_there e = let is = sym (ap (option_map (λ (side : SpaceValue S). side.running.ending)) shows.found) ∙ e in cc
 
     -- a page is mapped where the flat process has one
     pub page_shown : (number : ℕ) → number < 2 ^ 20 → is_some (stage_in shows.side.memory number) ≡ is_some (mapped_page (flat_at core).memory number)

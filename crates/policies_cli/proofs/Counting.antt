@@ -6,7 +6,7 @@ use Rattle.std.proofs.lemmas.List.{length-append, map-append}
 use Rattle.clock_policy.specs.declared.key.Key.{Key}
 use Rattle.guest_strings.specs.declared.reference.Reference.{Reference}
 use Rattle.whole_strings.specs.PageCounts.{first_uses, page_count}
-use Rattle.miss_counts.specs.Guests.{pages_of}
+use Rattle.miss_counts.specs.StringPages.{pages_of}
 use Rattle.page_policies.specs.Strings.{is_page}
 use Rattle.trace_files.specs.References.{Trace, Gives}
 use Rattle.trace_files.specs.ReferenceAnswers.{IsOver, IsWhole, Passes, TellsReferences}

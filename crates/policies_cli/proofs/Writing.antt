@@ -1,14 +1,17 @@
 -- Bytes that are written one part after another.
-use Rattle.std.specs.Prelude.{◌≡◌, ℕ, List, ◌++◌, Option, Some}
+use Rattle.std.specs.Prelude.{◌≡◌, ℕ, suc, List, [], ◌∷◌, ◌++◌, length, Option, Some, refl}
 use Rattle.std.proofs.Common.{ap, sym, ◌∙◌}
 use Rattle.std.proofs.lemmas.List.{append_assoc}
 use Rattle.std.proofs.KnownBytes.{Appends-trans}
 use Rattle.std.specs.Io.KnownBytes.{Appends}
 use Rattle.std.specs.List.{flat_map}
+use Rattle.clock_policy.specs.declared.key.Key.{Key}
 use Rattle.guest_strings.specs.ToCome.{listed}
 use Rattle.guest_strings.specs.declared.reference.Reference.{Reference}
-use Rattle.trace_files.specs.Written.{csv_line, reference_line}
-use Rattle.policies_cli.specs.Traces.{later, rows_behind}
+use Rattle.miss_counts.specs.StringPages.{pages_of}
+use Rattle.trace_files.specs.Written.{csv_line, records, reference_line}
+use Rattle.trace_lines.specs.declared.format.TraceFormat.TheVariants.{OracleGeneral}
+use Rattle.policies_cli.specs.Traces.{later, rows_behind, trace_text}
 
 -- what was appended so far, and the bytes that are to come
 pub record Goes (old now : Option (List ℕ)) (rest whole : List ℕ) : Type 0 where
@@ -37,3 +40,14 @@ pub row_on : (old now new : Option (List ℕ)) (time next : ℕ) (references beh
 row_on old now new time next references behind whole reference before on appends is =
     goes_on old now new (rows_behind time references) whole (csv_line next reference.page) (rows_behind next behind) before appends
     (ap (rows_behind time) is ∙ ap (λ (n : ℕ). csv_line n reference.page ++ rows_behind n behind) (sym on))
+
+-- records of a whole string
+
+as_many : (references : List Reference) → length (pages_of references) ≡ length references
+as_many [] = refl
+as_many (reference ∷ references) = ap suc (as_many references)
+
+pub oracle_text : (string come : List Reference) (pages : List Key) → string ≡ come → pages ≡ pages_of string → records (length pages) 0 pages ≡ trace_text OracleGeneral come
+oracle_text string come pages same are =
+    let all : pages ≡ pages_of come = are ∙ ap pages_of same in
+    ap (λ (l : List Key). records (length l) 0 l) all ∙ ap (λ (n : ℕ). records n 0 (pages_of come)) (as_many come)

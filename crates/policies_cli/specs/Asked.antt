@@ -2,7 +2,8 @@
 use Rattle.std.specs.Prelude.{◌≡◌, ℕ, List, map, option_map}
 use Rattle.flat_machine.specs.Process.{Process, opening}
 use Rattle.elf_image.specs.Start.{Start}
-use Rattle.miss_counts.specs.Guests.{IsTable, guest_pages}
+use Rattle.guest_strings.specs.Slices.{guest_string}
+use Rattle.miss_counts.specs.Guests.{IsTable}
 use Rattle.miss_counts.specs.declared.counts.PolicyCounts.{PolicyCounts}
 use Rattle.image_files.specs.Reading.{AreGiven}
 use Rattle.policies_requests.specs.declared.request.GuestRequest.{GuestRequest}
@@ -25,4 +26,4 @@ module _ (gives : List ℕ → List ℕ → Type 0) where
   pub record CountsAsAsked (request : MissesRequest) (rows : List PolicyCounts) : Type 0 where
     pub processes : List Process
     pub guests : AreGuests request.guest processes
-    pub table : IsTable request.wanted (guest_pages request.guest.accesses request.guest.slice request.guest.limit processes) (option_map (λ s. s.items) request.sizes) rows
+    pub table : IsTable request.wanted (guest_string request.guest.accesses request.guest.slice request.guest.limit processes) (option_map (λ s. s.items) request.sizes) rows

@@ -3,7 +3,7 @@ use Rattle.std.specs.Prelude.{◌≡◌, ℕ, ◌+◌, Bool, true, false, cond, 
 use Rattle.clock_policy.specs.declared.key.Key.{Key}
 use Rattle.guest_strings.specs.declared.reference.Reference.{Reference}
 use Rattle.whole_strings.specs.PageCounts.{page_count}
-use Rattle.miss_counts.specs.Guests.{pages_of}
+use Rattle.miss_counts.specs.StringPages.{pages_of}
 use Rattle.trace_files.specs.References.{Trace}
 use Rattle.trace_files.specs.ReferenceAnswers.{IsWhole}
 use Rattle.policies_cli.specs.declared.totals.Totals.{Totals}

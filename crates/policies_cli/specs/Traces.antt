@@ -5,7 +5,7 @@ use Rattle.std.specs.List.{flat_map}
 use Rattle.flat_machine.specs.Process.{Process}
 use Rattle.guest_strings.specs.Slices.{guest_string}
 use Rattle.guest_strings.specs.declared.reference.Reference.{Reference}
-use Rattle.miss_counts.specs.Guests.{pages_of}
+use Rattle.miss_counts.specs.StringPages.{pages_of}
 use Rattle.policies_requests.specs.declared.request.TraceRequest.{TraceRequest}
 use Rattle.trace_files.specs.Written.{csv_line, header, records, reference_line}
 use Rattle.trace_lines.specs.declared.format.TraceFormat.{TraceFormat}
@@ -26,8 +26,8 @@ abbrev pub trace_text : TraceFormat → List Reference → List ℕ
 trace_text Text references = flat_map reference_line references
 trace_text Lackey references = flat_map reference_line references
 trace_text DynamoRio references = flat_map reference_line references
-trace_text Csv references = (header ++ 10 ∷ []) ++ rows_behind 0 references
-trace_text (Columns column) references = (header ++ 10 ∷ []) ++ rows_behind 0 references
+trace_text (Csv table) references = (header ++ 10 ∷ []) ++ rows_behind 0 references
+trace_text (Columns table) references = (header ++ 10 ∷ []) ++ rows_behind 0 references
 trace_text OracleGeneral references = records (length references) 0 (pages_of references)
 
 -- The guests' string is written, of the references that were asked for, by slices of so many instructions as were asked for, to the limit

@@ -6,12 +6,12 @@ ghost use Rattle.policies_cli.specs.Replays.{PlaysParts, ReplaysAsAsked};
 
 use crate::replay_rows::{new_rows, none_played};
 use crate::wrong::Wrong;
-use clock_policy::Key;
+use guest_strings::Reference;
 use miss_counts::{PolicyCounts, Rows, StageListener, frames_for_string, rows_of};
 use policies_requests::ReplayRequest;
 use std::alloc::Global;
 use std::io::BufRead;
-use trace_files::{TraceFile, read_whole};
+use trace_files::{TraceFile, read_references};
 
 /// What the whole string misses: the optimum is asked for, and none are skipped.
 pub(crate) fn count_whole<'a, B: BufRead + Drop, P: StageListener>(
@@ -24,7 +24,7 @@ pub(crate) fn count_whole<'a, B: BufRead + Drop, P: StageListener>(
     ensures { IfOk result (λ rows. ReplaysAsAsked request.now rows.items (to_come B.remaining
         trace.old)) }
 {
-    let string = read_whole(alloc, trace, progress)?;
+    let string = read_references(alloc, trace, progress)?;
     let frames = frames_for_string(alloc, request.sizes.as_slice(), string.as_slice())?;
     let rows = rows_of(
         alloc,
@@ -47,7 +47,7 @@ pub(crate) fn count_kept<'a, B: BufRead + Drop, P: StageListener>(
     ensures { IfOk result (λ rows. ReplaysAsAsked request.now rows.items (to_come B.remaining
         trace.old)) }
 {
-    let string = read_whole(alloc, trace, progress)?;
+    let string = read_references(alloc, trace, progress)?;
     let frames = frames_for_string(alloc, request.sizes.as_slice(), string.as_slice())?;
     let rows = new_rows(alloc, frames.as_slice(), &request.wanted)?;
     if string.len() as u64 <= request.skip {
@@ -60,7 +60,7 @@ pub(crate) fn count_kept<'a, B: BufRead + Drop, P: StageListener>(
 /// Plays a string. What the first references miss that are skipped is left out.
 fn play_kept<'a>(
     alloc: Global,
-    string: &[Key],
+    string: &[Reference],
     request: &ReplayRequest<'a>,
     mut rows: Rows,
 ) -> Result<Vec<PolicyCounts>, Wrong<'a>>

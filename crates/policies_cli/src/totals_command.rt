@@ -10,9 +10,9 @@ use crate::wrong::Wrong;
 use policies_requests::TotalsRequest;
 use std::io::Write;
 use std::rt::Files;
-use trace_files::{TraceFault, open_trace};
+use trace_files::{TraceFault, marks_writes, open_trace};
 
-/// Counts a trace as it comes, and writes a line for each count.
+/// Counts a trace as it comes, and writes a line for each count: none for writes where the format marks none.
 pub(crate) fn run_totals<'a, R: Files + AllocGlobal, W: Write, E: Write>(
     rt: &R,
     request: &TotalsRequest<'a>,
@@ -24,10 +24,11 @@ pub(crate) fn run_totals<'a, R: Files + AllocGlobal, W: Write, E: Write>(
         return Err(Wrong::Trace(TraceFault::Empty(request.trace)));
     }
     let (references, writes, pages) = (totals.references, totals.writes, totals.pages);
-    writeln!(
-        out,
-        "references {references}\nwrites {writes}\npages {pages}"
-    )?;
+    writeln!(out, "references {references}")?;
+    if marks_writes(request.format) {
+        writeln!(out, "writes {writes}")?;
+    }
+    writeln!(out, "pages {pages}")?;
     Ok(())
 }
 

@@ -11,7 +11,7 @@ use crate::guests::read_guests;
 use clock_policy::Key;
 use guest_strings::GuestString;
 use image_files::{Fault, Folder};
-use miss_counts::{Quiet, pages_of};
+use miss_counts::{Quiet, pages_in, references_of};
 use policies_requests::TraceRequest;
 use std::alloc::Global;
 use std::io::Write;
@@ -39,15 +39,15 @@ pub fn run_trace<'a, R: Folder + AllocGlobal, W: Write>(
 fn write_guests<'a, W: Write>(
     alloc: Global,
     guests: GuestString,
-    format: TraceFormat,
+    format: TraceFormat<'a>,
     out: &mut W,
 ) -> Result<(), Fault<'a>>
-    ensures { OnOk result (Appends (W.contents out.old) (W.contents out.new) (trace_text format
-        (to_come guests))) }
+    ensures { OnOk result (Appends (W.contents out.old) (W.contents out.new) (trace_text
+        format.entry (to_come guests))) }
 {
     match format {
         TraceFormat::Text | TraceFormat::Lackey | TraceFormat::DynamoRio => write_text(guests, out),
-        TraceFormat::Csv | TraceFormat::Columns(_) => write_all_csv(guests, out),
+        TraceFormat::Csv(_) | TraceFormat::Columns(_) => write_all_csv(guests, out),
         TraceFormat::OracleGeneral => write_all_oracle(alloc, guests, out),
     }
 }
@@ -91,8 +91,9 @@ fn write_all_oracle<'a, W: Write>(
     ensures { OnOk result (Appends (W.contents out.old) (W.contents out.new) (trace_text
         TraceFormat.OracleGeneral (to_come guests))) }
 {
-    let string = pages_of(alloc, guests, &mut Quiet)?;
-    write_oracle(alloc, string.as_slice(), out)
+    let string = references_of(alloc, guests, &mut Quiet)?;
+    let pages = pages_in(alloc, string.as_slice())?;
+    write_oracle(alloc, pages.as_slice(), out)
 }
 
 fn write_oracle<'a, W: Write>(alloc: Global, string: &[Key], out: &mut W) -> Result<(), Fault<'a>>

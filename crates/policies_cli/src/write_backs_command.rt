@@ -3,22 +3,16 @@
 ghost use Rattle.std.specs.Prelude.{◌≡◌, map, IfOk, IfSome};
 ghost use Rattle.miss_counts.specs.FrameNumbers.{frames_for};
 ghost use Rattle.whole_strings.specs.PageCounts.{page_count};
-ghost use Rattle.miss_counts.specs.Guests.{pages_of};
+ghost use Rattle.miss_counts.specs.StringPages.{pages_of};
 ghost use Rattle.trace_files.specs.ReferenceAnswers.{to_come};
 ghost use Rattle.policies_cli.specs.Replays.{OfFile, WritesBackAsAsked};
 
 use crate::teller::Teller;
 use crate::wrong::Wrong;
-use clock_policy::Key;
-use guest_strings::Reference;
-use miss_counts::{
-    PolicyCounts, StageListener, TableSize, frames_for, frames_for_string, has_part,
-    write_back_rows,
-};
-use page_policies::Frames;
+use miss_counts::{PolicyCounts, StageListener, frames_for_string, write_back_rows};
 use policies_requests::WriteBacksRequest;
 use policies_tables::write_table;
-use std::alloc::{AllocError, Global};
+use std::alloc::Global;
 use std::io::{BufRead, Write};
 use std::rt::Files;
 use trace_files::{TraceFile, open_trace, read_references};
@@ -75,7 +69,7 @@ pub fn count_opened<'a, B: BufRead + Drop, P: StageListener>(
         trace.old)) }
 {
     let string = read_references(alloc, trace, progress)?;
-    let frames = frames_of(alloc, request.sizes.as_slice(), string.as_slice())?;
+    let frames = frames_for_string(alloc, request.sizes.as_slice(), string.as_slice())?;
     let rows = write_back_rows(
         alloc,
         frames.as_slice(),
@@ -84,32 +78,4 @@ pub fn count_opened<'a, B: BufRead + Drop, P: StageListener>(
         progress,
     )?;
     Ok(rows)
-}
-
-/// The numbers of frames for a string.
-#[tactic(auto, using(miss_counts::proofs::Sizes::without_parts))]
-fn frames_of(
-    alloc: Global,
-    sizes: &[TableSize],
-    string: &[Reference],
-) -> Result<Vec<Frames>, AllocError>
-    ensures { IfOk result (λ all. map (λ f. f.number) all.items ≡ map (frames_for (page_count
-        (pages_of string.now))) sizes.now) }
-{
-    if !has_part(sizes) {
-        return frames_for(alloc, sizes, 0);
-    }
-    let pages = pages_in(alloc, string)?;
-    frames_for_string(alloc, sizes, pages.as_slice())
-}
-
-/// The pages of references.
-fn pages_in(alloc: Global, string: &[Reference]) -> Result<Vec<Key>, AllocError>
-    ensures { IfOk result (λ pages. pages.items ≡ pages_of string.now) }
-{
-    let mut pages = Vec::new(alloc);
-    'references: for reference in string {
-        pages.push(reference.page)?;
-    }
-    Ok(pages)
 }

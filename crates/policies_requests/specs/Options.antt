@@ -1,13 +1,11 @@
 -- What single options say.
-use Rattle.std.specs.Prelude.{◌≡◌, ◌↔◌, ℕ, ◌≤◌, ⊤, List, Option, Some, None, codes, IsTrue}
+use Rattle.std.specs.Prelude.{◌≡◌, ◌↔◌, ℕ, ◌≤◌, List, Option, Some, None, codes, IsTrue}
 use Rattle.std.specs.Str.Parse.{digits_value}
 use Rattle.clap.specs.Walk.{Row, first_of}
 use Rattle.guest_strings.specs.declared.access_kinds.AccessKinds.{AccessKinds}
 use Rattle.guest_strings.specs.declared.access_kinds.AccessKinds.TheVariants.{All, Data, Instructions}
 use Rattle.policies_tables.specs.declared.printing.Printing.{Printing}
 use Rattle.text_lines.specs.Numbers.{IsUpTo}
-use Rattle.trace_lines.specs.declared.format.TraceFormat.{TraceFormat}
-use Rattle.trace_lines.specs.declared.format.TraceFormat.TheVariants.{Text, Csv, Columns, OracleGeneral, Lackey, DynamoRio}
 
 -- a flag is set
 abbrev pub IsSet : List ℕ → List Row → Type 0
@@ -33,33 +31,3 @@ pub record AsksPrinting (rows : List Row) (printing : Printing) : Type 0 where
 pub record AsksAccesses (rows : List Row) (accesses : AccessKinds) : Type 0 where
   pub loads : (accesses ≡ Data) ↔ IsSet (codes "data") rows
   pub fetches : (accesses ≡ Instructions) ↔ IsSet (codes "instructions") rows
-
--- no name, or that of a text
-abbrev pub IsText : Option (List ℕ) → Type 0
-IsText None = ⊤
-IsText (Some name) = name ≡ codes "text"
-
--- the name of a format, where its columns are not told: that of a text may be left out
-abbrev pub IsNamed : TraceFormat → Option (List ℕ) → Type 0
-IsNamed Text name = IsText name
-IsNamed Csv name = name ≡ Some (codes "csv")
-IsNamed (Columns column) name = ⊥
-IsNamed OracleGeneral name = name ≡ Some (codes "oraclegeneral")
-IsNamed Lackey name = name ≡ Some (codes "lackey")
-IsNamed DynamoRio name = name ≡ Some (codes "dynamorio")
-
-abbrev pub IsTable : TraceFormat → Type 0
-IsTable Text = ⊥
-IsTable Csv = ⊥
-IsTable (Columns column) = ⊤
-IsTable OracleGeneral = ⊥
-IsTable Lackey = ⊥
-IsTable DynamoRio = ⊥
-
--- a format by its name, and a table where its columns are told, which has the name `csv`
-abbrev pub IsFormat : TraceFormat → Option (List ℕ) → Option (List ℕ) → Type 0
-IsFormat format name None = IsNamed format name
-IsFormat format name (Some columns) = (name ≡ Some (codes "csv")) × IsTable format
-
-abbrev pub AsksFormat : List Row → TraceFormat → Type 0
-AsksFormat rows format = IsFormat format (first_of (codes "format") rows) (first_of (codes "columns") rows)

@@ -1,8 +1,11 @@
 -- The requests that a command's arguments make.
-use Rattle.std.specs.Prelude.{◌≡◌, ◌↔◌, ◌≤◌, ℕ, List, Option, Some, None, codes, length, map, option_map, IsTrue, IsSomeAnd}
+use Rattle.std.specs.Prelude.{◌≡◌, ◌↔◌, ◌≤◌, ◌||◌, ℕ, not, true, List, Option, Some, None, codes, length, map, option_map, IsTrue, IsSomeAnd}
 use Rattle.clap.specs.Walk.{Row, all_of, first_of}
 use Rattle.machine_limits.specs.Limits.{most_processes}
-use Rattle.policies_requests.specs.Options.{AsksAccesses, AsksFormat, AsksPrinting, IsOption, IsSet}
+use Rattle.miss_counts.specs.Counted.{any_needs_writes}
+use Rattle.policies_requests.specs.Formats.{AsksFormat}
+use Rattle.policies_requests.specs.Options.{AsksAccesses, AsksPrinting, IsOption, IsSet}
+use Rattle.trace_lines.specs.Lines.{marks_writes}
 use Rattle.policies_requests.specs.declared.request.CurveRequest.{CurveRequest}
 use Rattle.policies_requests.specs.declared.request.GuestRequest.{GuestRequest}
 use Rattle.policies_requests.specs.declared.request.MissesRequest.{MissesRequest}
@@ -33,15 +36,19 @@ pub record AsksTrace (rows : List Row) (request : TraceRequest) : Type 0 where
   pub guest : AsksGuest rows request.guest
   pub format : AsksFormat rows request.format
 
+-- of a format that marks no writes no policy that goes by them is asked for
 pub record AsksReplay (rows : List Row) (request : ReplayRequest) : Type 0 where
   pub format : AsksFormat rows request.format
+  pub writes : (marks_writes request.format || not (any_needs_writes request.wanted.policies.items)) ≡ true
   pub skip : IsOption 0 0 4294967295 request.skip (first_of (codes "skip") rows)
   pub printing : AsksPrinting rows request.printing
   pub told : IsTrue request.is_told ↔ IsSet (codes "progress") rows
   pub trace : first_of (codes "trace") rows ≡ Some request.trace.now
 
+-- of a format that marks no writes none is asked for
 pub record AsksWriteBacks (rows : List Row) (request : WriteBacksRequest) : Type 0 where
   pub format : AsksFormat rows request.format
+  pub marks : marks_writes request.format ≡ true
   pub printing : AsksPrinting rows request.printing
   pub told : IsTrue request.is_told ↔ IsSet (codes "progress") rows
   pub trace : first_of (codes "trace") rows ≡ Some request.trace.now

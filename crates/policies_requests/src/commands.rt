@@ -187,7 +187,20 @@ fn with_trace<'a>(alloc: Global, command: Made<'a>) -> Made<'a> {
         alloc,
         command,
         "columns",
-        "of a csv without names: the numbers of its columns, as time=1,id=2",
+        "of a csv: its columns by names or numbers, as id=lba or time=1,id=2",
+    );
+    let command = with_option(alloc, command, "ids", "of a csv: words or numbers");
+    let command = with_option(
+        alloc,
+        command,
+        "page-size",
+        "of a csv with offsets: how many units a page has",
+    );
+    let command = with_option(
+        alloc,
+        command,
+        "writes",
+        "of a csv with an op: the words that mean a write",
     );
     with_arg(command, Arg::new(alloc, "trace").required(true))
 }

@@ -25,6 +25,12 @@ pub enum RequestFault<'a> {
     /// Two options that don't go together, and why.
     #[error("--{0} with --{1}: {2}")]
     Together(&'static str, &'static str, &'static str),
+    /// A trace in a format that marks no writes.
+    #[error("--format: oraclegeneral marks no writes, and csv only in a column that is named, as --columns id=lba,op=type")]
+    NoWrites,
+    /// A policy that goes by writes, with a trace in such a format.
+    #[error("--policies {0} goes by writes: oraclegeneral marks none, and csv only in a column that is named, as --columns id=lba,op=type")]
+    NeedsWrites(&'static str),
     /// A number of frames that one of the policies can't have.
     #[error("{0} frames: clock-pro and clock-pro-used have 4 to 4096; name others by --policies")]
     ClockProFrames(usize),

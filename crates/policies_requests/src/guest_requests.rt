@@ -3,7 +3,7 @@
 ghost use Rattle.std.specs.Prelude.{◌≡◌, map, IfOk};
 ghost use Rattle.clap.specs.Matches.{found_of};
 ghost use Rattle.clap.specs.Walk.{rows_of};
-ghost use Rattle.policies_requests.specs.Options.{AsksFormat};
+ghost use Rattle.policies_requests.specs.Formats.{AsksFormat};
 ghost use Rattle.policies_requests.specs.Requested.{AreImages, AsksGuest, AsksMisses, AsksTrace};
 
 use crate::access_choice::accesses;
@@ -52,10 +52,13 @@ fn guests_table<'a>(
     match matches.get_str("frames") {
         Some(list) => {
             let sizes = listed_sizes(alloc, list)?;
-            let wanted = wanted_policies(alloc, matches, true, false, sizes.as_slice())?;
+            let wanted = wanted_policies(alloc, matches, true, false, sizes.as_slice(), true)?;
             Ok((Some(sizes), wanted))
         }
-        None => Ok((None, wanted_policies(alloc, matches, true, false, &[])?)),
+        None => Ok((
+            None,
+            wanted_policies(alloc, matches, true, false, &[], true)?,
+        )),
     }
 }
 
@@ -71,7 +74,7 @@ pub(crate) fn trace_request<'a>(
 }
 
 /// The format that a trace is written in.
-fn written_format<'a>(matches: &ArgMatches<'a>) -> Result<TraceFormat, RequestFault<'a>>
+fn written_format<'a>(matches: &ArgMatches<'a>) -> Result<TraceFormat<'a>, RequestFault<'a>>
     ensures { IfOk result (AsksFormat (rows_of (found_of matches.now))) }
 {
     match found(matches, "format") {

@@ -2,6 +2,7 @@
 #![tactic(auto)]
 
 mod access_choice;
+mod columns;
 mod commands;
 mod fault;
 mod frame_lists;

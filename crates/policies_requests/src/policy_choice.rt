@@ -20,17 +20,18 @@ const SEEDS: &str = "a number from 0 to 4294967295";
 /// Why the optimum writes no page back.
 const NO_WRITE_BACKS: &str = "its misses are counted, and not which pages it has in frames";
 
-/// The policies that a trace is played on. The optimum goes with no references that are skipped.
+/// The policies that a trace is played on, which marks writes or does not. The optimum goes with no references that are skipped.
 pub(crate) fn replayed_policies<'a>(
     alloc: Global,
     matches: &ArgMatches<'a>,
     sizes: &[TableSize],
     skip: u32,
+    has_writes: bool,
 ) -> Result<PolicySet, RequestFault<'a>>
     ensures whole { IfOk result (λ wanted. wanted.optimum ≡ true → skip ≡ 0) }
 {
     let optimum = is_given(matches, "optimum");
-    let wanted = wanted_policies(alloc, matches, optimum, optimum, sizes)?;
+    let wanted = wanted_policies(alloc, matches, optimum, optimum, sizes, has_writes)?;
     if skip > 0 && wanted.optimum {
         return Err(RequestFault::Together("skip", "optimum", WHOLE));
     }
@@ -49,7 +50,7 @@ pub(crate) fn writing_policies<'a>(
         }
         _ => {}
     }
-    let PolicySet { policies, .. } = wanted_policies(alloc, matches, false, false, sizes)?;
+    let PolicySet { policies, .. } = wanted_policies(alloc, matches, false, false, sizes, true)?;
     Ok(policies)
 }
 
@@ -61,13 +62,14 @@ pub(crate) fn wanted_policies<'a>(
     usual: bool,
     added: bool,
     sizes: &[TableSize],
+    has_writes: bool,
 ) -> Result<PolicySet, RequestFault<'a>> {
     let frames = plain_frames(alloc, sizes)?;
     let seed = seed(matches)?;
     let Some(list) = matches.get_str("policies") else {
         return Ok(usual_policies(alloc, frames.as_slice(), usual || added)?);
     };
-    let named = policies_in(alloc, list, seed)?;
+    let named = policies_in(alloc, list, seed, has_writes)?;
     let optimum = named.optimum || added;
     served(
         PolicySet {

@@ -57,24 +57,30 @@ fn serves_each(policy: PolicyName, frames: &[Frames]) -> bool {
 }
 
 /// The policies that a list names, in the order of a table's columns, one name's in the order of the list. `random` has this seed where
-/// the list says none.
+/// the list says none. Where no writes are marked, `all` are those that do not go by them.
 pub(crate) fn policies_in<'a>(
     alloc: Global,
     list: &'a str,
     seed: u64,
+    has_writes: bool,
 ) -> Result<PolicySet, RequestFault<'a>> {
     if let Some(wrong) = wrong_word(list) {
         return Err(wrong);
     }
-    Ok(named_policies(alloc, list, seed)?)
+    Ok(named_policies(alloc, list, seed, has_writes)?)
 }
 
 /// The policies that a list has.
-fn named_policies(alloc: Global, list: &str, seed: u64) -> Result<PolicySet, AllocError> {
+fn named_policies(
+    alloc: Global,
+    list: &str,
+    seed: u64,
+    has_writes: bool,
+) -> Result<PolicySet, AllocError> {
     let has_all = has_word(list, ALL);
     let mut policies = Vec::new(alloc);
     for policy in PolicyName::ALL {
-        if has_all {
+        if has_all && (has_writes || !policy.needs_writes()) {
             add(&mut policies, seeded(policy, policy.text(), seed))?;
         }
         add_named(&mut policies, list, policy.text(), seed)?;

@@ -1,7 +1,10 @@
 //! The parameters of policies in a list.
 
+use kernel_policies::TwoListsParts;
 use miss_counts::PolicyName;
 use text_lines::numeral;
+use textbook_policies::{GClockCounts, LruKUses};
+use ticked_policies::{AgingTicks, Arrival, NruTicks, WorkingSetTime};
 use tiny_lfu::{SketchWidth, TinyLfuShares};
 use younger_policies::{LirsShares, MovedCount, S3FifoShares, TwoQueueShares};
 
@@ -44,6 +47,13 @@ pub(crate) fn parts_of(policy: PolicyName) -> &'static str {
         PolicyName::WTinyLfu(_) => {
             "window and protected from 0 to 100, width 1 or 4, sample from 1 to 1000"
         }
+        PolicyName::LruK(_) => "k from 1 to 64",
+        PolicyName::GClock(_) => "most from 1 to 255, first from 0 to 255",
+        PolicyName::SecondChance(_) => "arrival marked or clear",
+        PolicyName::Nru(_) => "every from 1 to 4294967295",
+        PolicyName::Aging(_) => "every from 1 to 4294967295, bits from 1 to 32",
+        PolicyName::WsClock(_) => "tau from 1 to 4294967295",
+        PolicyName::TwoLists(_) => "ratio from 1 to 1000, arrival marked or clear",
         PolicyName::Random(_) => "seed from 0 to 4294967295",
         _ => "no parameter",
     }
@@ -56,6 +66,21 @@ fn with_part(policy: PolicyName, name: &str, value: &str) -> Option<PolicyName> 
         PolicyName::Lirs(shares) => lirs_with(shares, name, value),
         PolicyName::S3Fifo(shares) => s3_fifo_with(shares, name, value),
         PolicyName::WTinyLfu(shares) => tiny_lfu_with(shares, name, value),
+        PolicyName::LruK(_) if name == "k" => Some(PolicyName::LruK(LruKUses {
+            k: within(value, LruKUses::K)?,
+        })),
+        PolicyName::GClock(counts) => g_clock_with(counts, name, value),
+        PolicyName::SecondChance(_) if name == "arrival" => {
+            Some(PolicyName::SecondChance(arrival_named(value)?))
+        }
+        PolicyName::Nru(_) if name == "every" => Some(PolicyName::Nru(NruTicks {
+            every: Some(within(value, NruTicks::EVERY)?),
+        })),
+        PolicyName::Aging(ticks) => aging_with(ticks, name, value),
+        PolicyName::WsClock(_) if name == "tau" => Some(PolicyName::WsClock(WorkingSetTime {
+            tau: Some(within(value, WorkingSetTime::TAU)?),
+        })),
+        PolicyName::TwoLists(parts) => two_lists_with(parts, name, value),
         PolicyName::Random(_) if name == "seed" => {
             Some(PolicyName::Random(u64::from(within(value, (0, u32::MAX))?)))
         }
@@ -151,6 +176,53 @@ fn sketch_width(value: &str) -> Option<SketchWidth> {
         "4" => Some(SketchWidth::Four),
         _ => None,
     }
+}
+
+fn g_clock_with(counts: GClockCounts, name: &str, value: &str) -> Option<PolicyName> {
+    let GClockCounts {
+        mut most,
+        mut first,
+    } = counts;
+    match name {
+        "most" => most = within(value, GClockCounts::MOST)?,
+        "first" => first = within(value, GClockCounts::FIRST)?,
+        _ => return None,
+    }
+    Some(PolicyName::GClock(GClockCounts { most, first }))
+}
+
+fn arrival_named(value: &str) -> Option<Arrival> {
+    match value {
+        "marked" => Some(Arrival::Marked),
+        "clear" => Some(Arrival::Clear),
+        _ => None,
+    }
+}
+
+fn aging_with(ticks: AgingTicks, name: &str, value: &str) -> Option<PolicyName> {
+    let AgingTicks {
+        mut every,
+        mut bits,
+    } = ticks;
+    match name {
+        "every" => every = Some(within(value, NruTicks::EVERY)?),
+        "bits" => bits = within(value, AgingTicks::BITS)?,
+        _ => return None,
+    }
+    Some(PolicyName::Aging(AgingTicks { every, bits }))
+}
+
+fn two_lists_with(parts: TwoListsParts, name: &str, value: &str) -> Option<PolicyName> {
+    let TwoListsParts {
+        mut ratio,
+        mut arrival,
+    } = parts;
+    match name {
+        "ratio" => ratio = Some(within(value, TwoListsParts::RATIO)?),
+        "arrival" => arrival = arrival_named(value)?,
+        _ => return None,
+    }
+    Some(PolicyName::TwoLists(TwoListsParts { ratio, arrival }))
 }
 
 /// A number that is no less than the one and no greater than the other.

@@ -49,14 +49,14 @@ pub struct MissesRequest<'a> {
 #[derive(Drop)]
 pub struct TraceRequest<'a> {
     pub guest: GuestRequest<'a>,
-    pub format: TraceFormat,
+    pub format: TraceFormat<'a>,
 }
 
 /// Count what a trace misses.
 #[derive(Drop)]
 pub struct ReplayRequest<'a> {
     pub sizes: Vec<TableSize>,
-    pub format: TraceFormat,
+    pub format: TraceFormat<'a>,
     /// Where the optimum is among them the whole string is kept.
     pub wanted: PolicySet,
     /// How many references come before those whose misses are told.
@@ -71,7 +71,7 @@ pub struct ReplayRequest<'a> {
 /// Count what a trace misses under LRU with every number of frames, or its working sets.
 #[derive(Drop)]
 pub struct CurveRequest<'a> {
-    pub format: TraceFormat,
+    pub format: TraceFormat<'a>,
     /// Whether the optimum is counted too.
     pub has_optimum: bool,
     /// Whether working sets are counted with every window, and nothing else.
@@ -88,7 +88,7 @@ pub struct CurveRequest<'a> {
 #[derive(Drop)]
 pub struct WriteBacksRequest<'a> {
     pub sizes: Vec<TableSize>,
-    pub format: TraceFormat,
+    pub format: TraceFormat<'a>,
     pub policies: Vec<PolicyName>,
     pub printing: Printing,
     /// Whether it is told on standard error how far the count is.
@@ -99,7 +99,7 @@ pub struct WriteBacksRequest<'a> {
 /// Count a trace's references and pages.
 #[derive(Drop)]
 pub struct TotalsRequest<'a> {
-    pub format: TraceFormat,
+    pub format: TraceFormat<'a>,
     /// Whether it is told on standard error how far the count is.
     pub is_told: bool,
     pub trace: &'a str,

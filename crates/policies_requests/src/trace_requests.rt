@@ -1,8 +1,11 @@
 //! Requests on traces.
 
-ghost use Rattle.std.specs.Prelude.{IfOk};
+ghost use Rattle.std.specs.Prelude.{◌≡◌, ◌||◌, not, true, IfOk};
+ghost use Rattle.miss_counts.specs.Counted.{any_needs_writes};
 ghost use Rattle.clap.specs.Matches.{found_of};
 ghost use Rattle.clap.specs.Walk.{rows_of};
+ghost use Rattle.trace_lines.specs.Lines.{marks_writes};
+ghost use Rattle.policies_requests.specs.Formats.{AsksFormat};
 ghost use Rattle.policies_requests.specs.Requested.{AsksCurve, AsksReplay, AsksTotals, AsksWriteBacks};
 
 use crate::fault::RequestFault;
@@ -12,9 +15,10 @@ use crate::request::{CurveRequest, ReplayRequest, TotalsRequest, WriteBacksReque
 use crate::trace_formats::format;
 use clap::ArgMatches;
 use machine_limits::MOST_FRAMES;
-use miss_counts::{TableSize, usual_frames};
+use miss_counts::{PolicySet, TableSize, first_writing, usual_frames};
 use std::alloc::{AllocError, Global};
 use std::num::NonZeroU32;
+use trace_files::{TraceFormat, marks_writes};
 
 /// What `--skip` may be.
 const SKIPPED: &str = "a number of references, from 0 to 4294967295";
@@ -35,7 +39,7 @@ pub(crate) fn replay_request<'a>(
     let format = format(matches)?;
     let trace = trace(matches)?;
     let sizes = trace_sizes(alloc, matches)?;
-    let wanted = replayed_policies(alloc, matches, sizes.as_slice(), skip)?;
+    let wanted = played_policies(alloc, matches, sizes.as_slice(), skip, format)?;
     Ok(ReplayRequest {
         sizes,
         format,
@@ -45,6 +49,30 @@ pub(crate) fn replay_request<'a>(
         is_told: is_given(matches, "progress"),
         trace,
     })
+}
+
+/// The policies that a trace in a format is played on. One that goes by writes is refused where the format marks none.
+#[tactic(auto, using(crate::proofs::Writes::marked, crate::proofs::Writes::none_writes))]
+fn played_policies<'a>(
+    alloc: Global,
+    matches: &ArgMatches<'a>,
+    sizes: &[TableSize],
+    skip: u32,
+    format: TraceFormat<'a>,
+) -> Result<PolicySet, RequestFault<'a>>
+    ensures whole { IfOk result (λ wanted. wanted.optimum ≡ true → skip ≡ 0) }
+    ensures writes { IfOk result (λ wanted. (marks_writes format.entry || not (any_needs_writes
+        wanted.policies.items)) ≡ true) }
+{
+    let has_writes = marks_writes(format);
+    let wanted = replayed_policies(alloc, matches, sizes, skip, has_writes)?;
+    if has_writes {
+        return Ok(wanted);
+    }
+    match first_writing(wanted.policies.as_slice()) {
+        Some(policy) => Err(RequestFault::NeedsWrites(policy.text())),
+        None => Ok(wanted),
+    }
 }
 
 /// The numbers of frames that a trace is played with.
@@ -73,7 +101,7 @@ pub(crate) fn write_backs_request<'a>(
 ) -> Result<WriteBacksRequest<'a>, RequestFault<'a>>
     ensures { IfOk result (AsksWriteBacks (rows_of (found_of matches.now))) }
 {
-    let format = format(matches)?;
+    let format = marked_format(matches)?;
     let trace = trace(matches)?;
     let sizes = trace_sizes(alloc, matches)?;
     let policies = writing_policies(alloc, matches, sizes.as_slice())?;
@@ -85,6 +113,18 @@ pub(crate) fn write_backs_request<'a>(
         is_told: is_given(matches, "progress"),
         trace,
     })
+}
+
+/// The format that a trace is in, where it marks writes.
+fn marked_format<'a>(matches: &ArgMatches<'a>) -> Result<TraceFormat<'a>, RequestFault<'a>>
+    ensures format { IfOk result (AsksFormat (rows_of (found_of matches.now))) }
+    ensures marks { IfOk result (λ format. marks_writes format ≡ true) }
+{
+    let format = format(matches)?;
+    if !marks_writes(format) {
+        return Err(RequestFault::NoWrites);
+    }
+    Ok(format)
 }
 
 pub(crate) fn curve_request<'a>(

@@ -1,4 +1,4 @@
--- What is told of a machine under locks, of which no clause can tell what stands under them.
+-- What clauses say of a machine under locks: none can say what the locks hold.
 use Rattle.std.specs.Prelude.{ℕ, Bool}
 
 -- how many processes it has, of how many slots it was made, how often a process may be tried for, and whether its daemon writes changed
@@ -9,7 +9,7 @@ pub record SharedValue : Type 0 where
   pub most_tries : ℕ
   pub ahead : Bool
 
--- what is told of the locks of its processes alone
+-- the same of only the locks of its processes
 pub record LocksValue : Type 0 where
   pub processes : ℕ
   pub most_tries : ℕ

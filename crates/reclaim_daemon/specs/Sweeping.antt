@@ -1,4 +1,4 @@
--- A question of the list under the pager's lock alone.
+-- A question of the list under only the pager's lock.
 use Rattle.std.specs.Prelude.{◌≡◌, ℕ, ◌≤◌, Bool, true, false, Some, None}
 use Rattle.clock_policy.specs.declared.key.Key.{Key}
 use Rattle.clock_policy.specs.ClockPro.{question_of}

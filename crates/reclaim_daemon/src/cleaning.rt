@@ -1,5 +1,5 @@
 //! The hold by which a copy of a changed page goes out while the page is used. It takes no pager's lock; those by which a page's cleaning begins
-//! and ends take the process's alone.
+//! and ends take only the process's.
 //!
 //! Where a process is not the one of its lock's number no call is made, and the machine is not sound from then on.
 

@@ -1,4 +1,4 @@
-//! The holds of the pager's lock and a process's: each takes the locks that it needs, makes one call, and tells what it found and what it
+//! The holds of the pager's lock and a process's: each takes the locks that it needs, makes one call, and returns what it found and what it
 //! left.
 //!
 //! Where a process is not the one of its lock's number no call is made, and the machine is not sound from then on.
@@ -49,7 +49,7 @@ pub struct HoldOfBoth<L: Ledger, S: SwapSlot, C: Clock, A: Drop> {
     pub reply: A,
 }
 
-/// A hold of the pager's lock alone. Where a page of no process was met, the machine is not sound from then on.
+/// A hold of only the pager's lock. Where a page of no process was met, the machine is not sound from then on.
 #[derive(Drop)]
 pub struct HoldOfDesk<L: Ledger, C: Clock> {
     pub desk: Change<Desk<L, C>>,

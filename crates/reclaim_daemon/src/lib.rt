@@ -1,7 +1,7 @@
 //! The machine under locks, and the daemon that makes room in it.
 //!
 //! Each process, the pager and the slots have a lock of their own, and are taken in the order pager, process, slots: see [`Shared`].
-//! What a lock holds changes by the calls of the sides alone, and each hold is an event of the machine: it tells what it found
+//! What a lock holds changes only by the calls of the sides, and each hold is an event of the machine: it returns what it found
 //! and what it left. What is done while locks are held is in `held_machine`, which has none.
 #![tactic(auto)]
 

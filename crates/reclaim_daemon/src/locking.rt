@@ -1,6 +1,6 @@
 //! The pager's lock and a process's together, in this order.
 //!
-//! While another thread has the process, in a slice or a load, it is waited for alone, so that others page meanwhile; after a few rounds it is
+//! While another thread has the process, in a slice or a load, this thread waits with no other lock, so that others page meanwhile; after a few rounds it is
 //! waited for with the pager's lock held.
 
 use crate::process_locks::ProcessLocks;

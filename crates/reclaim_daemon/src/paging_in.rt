@@ -102,7 +102,7 @@ impl<L: Ledger, S: SwapSlot, C: Clock> Shared<L, S, C> {
         Some(hold)
     }
 
-    /// Brings an absent page in: it is admitted, and then loaded once the pager is let go and the gate was told.
+    /// Brings an absent page in: it is admitted, and then loaded once the pager is let go and the gate was called.
     ///
     /// It does nothing where there is no such process. An admission that comes back is to be undone: see [`Shared::undo`].
     pub fn page_in<R: Wait, G: Gate>(

@@ -1,4 +1,4 @@
-//! The holds of a process's lock alone, and no other: each makes one call, and tells what it found and what it left.
+//! The holds of a process's lock and no other: each makes one call, and returns what it found and what it left.
 //!
 //! Where a process is not the one of its lock's number no call is made, and the machine is not sound from then on.
 
@@ -211,7 +211,7 @@ impl<L: Ledger, S: SwapSlot> ProcessLocks<L, S> {
         Some(let_go(held, before, reply))
     }
 
-    /// Lets a process's lock go whose call may have ended it, and tells how far it has come.
+    /// Lets a process's lock go whose call may have ended it, and publishes how far it has come.
     fn publish<A: Drop>(
         &self,
         number: u32,

@@ -24,7 +24,7 @@ use std::sync::ledger::Ledger;
 use swap_slots::SwapSlot;
 use thiserror::Error;
 
-/// The processes of a machine, by rising number, with a lock each; and what threads tell one another of them without one.
+/// The processes of a machine, by rising number, with a lock each; and what threads let one another know of them without one.
 #[derive(Drop)]
 pub struct ProcessLocks<L: Ledger, S: SwapSlot> {
     all: Vec<Mutex<Held<L, S>>>,
@@ -104,7 +104,7 @@ impl<L: Ledger, S: SwapSlot> ProcessLocks<L, S> {
             return Err(AddRefusal::NoMemory);
         };
         let process = Snapshot::of(&held);
-        // Where the push behind this one is refused the signs stay, and will do for the next process.
+        // Where the push after this one is refused the signs stay, and will do for the next process.
         if self.signals.add_process().is_err() {
             return Err(AddRefusal::NoMemory);
         }

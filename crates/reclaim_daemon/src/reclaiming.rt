@@ -38,17 +38,12 @@ impl<'v> Reclaimer<'v> {
         Reclaimer { viewers }
     }
 
-    /// A frame has come free: looks at each viewer, with no lock of the machine held, and tells how far each process has come.
-    fn tell_free<G: Gate, R: Wait>(&mut self, rt: &R, gate: &G) {
-        let mut statuses = [Status {
-            steps: 0,
-            output: 0,
-        }; MOST_PROCESSES];
-        let count = self.viewers.len().min(MOST_PROCESSES);
+    /// Looks at each viewer. Answers how many there are.
+    fn look<R: Wait>(&mut self, rt: &R, statuses: &mut [Status; MOST_PROCESSES]) -> usize {
         for (viewer, status) in self.viewers.iter_mut().zip(statuses.iter_mut()) {
             *status = viewer.look(rt);
         }
-        gate.after_free(&statuses[..count]);
+        self.viewers.len()
     }
 }
 
@@ -80,6 +75,7 @@ pub fn daemon<L: Ledger, S: SwapSlot, C: Clock, G: Gate, R: Wait>(
         let calls = shared.locks().signals().daemon().rings();
         let has_ended = shared.locks().has_ended();
         let rest = step(rt, shared, reclaimer, gate, &mut ahead);
+        tell_free(rt, shared, reclaimer, gate);
         if has_ended {
             return is_ahead;
         }
@@ -100,14 +96,14 @@ fn step<L: Ledger, S: SwapSlot, C: Clock, G: Gate, R: Wait>(
     gate: &G,
     ahead: &mut Ahead,
 ) -> Rest {
-    let mut reclaimer = reclaimer.lock(rt);
+    let _reclaimer = reclaimer.lock(rt);
     purge_ended(rt, shared);
     if shared.locks().signals().is_reclaiming() {
         return ahead.rest_under_pressure(shared.is_ahead());
     }
     let room = shared.frames(rt);
     if room.wants_frames {
-        return match make_room_once(rt, shared, &mut *reclaimer, gate) {
+        return match make_room_once(rt, shared, gate) {
             Room::Made => Rest::Nothing,
             Room::Stuck(_) | Room::NoPage => Rest::UntilCalled,
         };
@@ -142,12 +138,12 @@ impl<L: Ledger, S: SwapSlot, C: Clock> Shared<L, S, C> {
         reclaimer: &Mutex<Reclaimer<'_>>,
         gate: &G,
     ) -> Room {
-        let mut reclaimer = reclaimer.lock(rt);
+        let _reclaimer = reclaimer.lock(rt);
         purge_ended(rt, self);
         if self.frames(rt).free > 0 {
             return Room::Made;
         }
-        let room = make_room_once(rt, self, &mut *reclaimer, gate);
+        let room = make_room_once(rt, self, gate);
         self.locks().signals().count_try(room == Room::Made);
         room
     }
@@ -157,7 +153,6 @@ impl<L: Ledger, S: SwapSlot, C: Clock> Shared<L, S, C> {
 fn make_room_once<L: Ledger, S: SwapSlot, C: Clock, G: Gate, R: Wait>(
     rt: &R,
     shared: &Shared<L, S, C>,
-    reclaimer: &mut Reclaimer<'_>,
     gate: &G,
 ) -> Room {
     let Some(victim) = find_victim(rt, shared) else {
@@ -166,8 +161,28 @@ fn make_room_once<L: Ledger, S: SwapSlot, C: Clock, G: Gate, R: Wait>(
     if !let_go(rt, shared, gate, victim) {
         return Room::Stuck(victim.process);
     }
-    reclaimer.tell_free(rt, gate);
+    if gate.wants_statuses() {
+        shared.locks().signals().note_free();
+    }
     Room::Made
+}
+
+/// Tells the gate how far processes have come, where frames have come free since. No lock is held meanwhile, so that nobody waits for the gate.
+fn tell_free<L: Ledger, S: SwapSlot, C: Clock, G: Gate, R: Wait>(
+    rt: &R,
+    shared: &Shared<L, S, C>,
+    reclaimer: &Mutex<Reclaimer<'_>>,
+    gate: &G,
+) {
+    if !shared.locks().signals().take_free() {
+        return;
+    }
+    let mut statuses = [Status {
+        steps: 0,
+        output: 0,
+    }; MOST_PROCESSES];
+    let count = reclaimer.lock(rt).look(rt, &mut statuses);
+    gate.after_free(&statuses[..count.min(MOST_PROCESSES)]);
 }
 
 /// Waits for a short while.

@@ -112,7 +112,7 @@ impl<L: Ledger, S: SwapSlot, C: Clock> Shared<L, S, C> {
         self.locks.add_workers(count)
     }
 
-    /// The locks of its processes alone.
+    /// Only the locks of its processes.
     pub fn locks(&self) -> &ProcessLocks<L, S>
         ensures { result.now ≡ locks_of self.now }
     {

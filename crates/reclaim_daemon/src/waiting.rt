@@ -1,4 +1,4 @@
-//! Who waits for what, and is told.
+//! Who waits for what, and is woken.
 
 use crate::process_locks::ProcessLocks;
 use crate::shared::Shared;
@@ -101,9 +101,18 @@ impl<L: Ledger, S: SwapSlot> ProcessLocks<L, S> {
         stuck: u32,
     ) -> bool {
         let signals = self.signals();
-        if signals.failed_tries() > FIRST_TRIES {
+        let failed = signals.failed_tries();
+        if failed > FIRST_TRIES {
             signals.begin_rest();
             return true;
+        }
+        let is_due = signals.count_stuck(stuck) == self.most_tries() / 2;
+        if is_due && stuck != number {
+            // Whoever is lent the turn may be done with it at once, and gives it back only to a worker that is hungry by then.
+            signals.set_hungry(worker, true);
+            if signals.lend_turn(worker, stuck) {
+                return false;
+            }
         }
         if stuck == number {
             let _ = self.press(rt, number, hart);
@@ -117,38 +126,47 @@ impl<L: Ledger, S: SwapSlot> ProcessLocks<L, S> {
                 true
             }
             Some(Runner::Itself) => {
-                signals.add_hungry(worker, number);
+                signals.set_hungry(worker, true);
                 signals.ring_worker(u64::from(worker));
                 false
             }
         }
     }
 
-    /// The least process of which a worker has a hart that waits for a frame, if there is one.
-    pub fn set_hungry(&self, worker: u32, process: Option<u32>) {
-        self.signals().set_hungry(worker, process);
+    /// Whether a worker has a hart that waits for a frame.
+    pub fn set_hungry(&self, worker: u32, is_hungry: bool) {
+        self.signals().set_hungry(worker, is_hungry);
     }
 
-    /// Whether a worker that found no frame may make room for a hart of a process: it has the turn, or nobody has, and it is not another one's turn. Else
-    /// it is hungry from now on, and is rung once it has the turn.
-    pub fn take_turn(&self, worker: u32, process: u32) -> bool {
+    /// Whether a worker that found no frame may make room for the hart that it carries: it has the turn, or nobody has, and the hart has not had its pages
+    /// while another worker waits. Else the worker is hungry from now on, and is rung once it has the turn.
+    pub fn take_turn(&self, worker: u32) -> bool {
         let signals = self.signals();
-        if signals.take_turn(worker) && !signals.is_turn_over(worker, process) {
-            return true;
+        if !signals.take_turn(worker) {
+            signals.set_hungry(worker, true);
+            // Whoever gave the turn back before may not have seen that this worker is hungry.
+            if !signals.take_turn(worker) {
+                return false;
+            }
         }
-        signals.add_hungry(worker, process);
-        if signals.has_turn(worker) {
-            signals.pass_turn(worker);
+        if signals.is_served(worker) {
+            signals.set_hungry(worker, true);
+            // Nobody may wait any more by the time that the turn would be passed on: then the worker, which keeps it, is to try again.
+            signals.ring_worker(u64::from(worker));
             return false;
         }
-        // Whoever gave the turn back before may not have seen that this worker is hungry.
-        if signals.take_turn(worker) {
-            if !signals.is_turn_over(worker, process) {
-                return true;
-            }
-            signals.pass_turn(worker);
-        }
-        false
+        true
+    }
+
+    /// Whether a hart of a worker that waits for a frame may try for its page: it is the worker's turn to make room, or nobody's.
+    pub fn may_try(&self, worker: u32) -> bool {
+        let signals = self.signals();
+        !signals.is_reclaiming() || signals.has_turn(worker)
+    }
+
+    /// Whether a frame was offered to a worker since this was asked last.
+    pub fn take_offer(&self, worker: u32) -> bool {
+        self.signals().take_offer(worker)
     }
 
     /// Whether it is a worker's turn to make room.
@@ -156,14 +174,21 @@ impl<L: Ledger, S: SwapSlot> ProcessLocks<L, S> {
         self.signals().has_turn(worker)
     }
 
-    /// The process for which a worker waits for a frame, if it does.
-    pub fn hungry_for(&self, worker: u32) -> Option<u32> {
-        self.signals().hungry_for(worker)
+    /// The process for which a worker has the turn out of order, if it has.
+    pub fn lent_for(&self, worker: u32) -> Option<u32> {
+        self.signals().lent_for(worker)
     }
 
-    /// How many pages have come in for the worker whose turn it is.
-    pub fn pages(&self) -> u64 {
-        self.signals().pages()
+    /// Whether a worker was given the turn to make room and has not begun it: then it begins.
+    pub fn begin_turn(&self, worker: u32) -> bool {
+        self.signals().begin_turn(worker)
+    }
+
+    /// A worker carries its next hart, for which pages are counted anew where it is the worker's turn.
+    pub fn begin_serving(&self, worker: u32) {
+        if self.signals().has_turn(worker) {
+            self.signals().begin_serving();
+        }
     }
 
     /// A page has come in for a hart that a worker carries, which counts where it is the worker's turn.
@@ -178,17 +203,11 @@ impl<L: Ledger, S: SwapSlot> ProcessLocks<L, S> {
         self.signals().pass_turn(worker);
     }
 
-    /// A hart's turn is over in which no page came in: where its worker has the turn to make room, and that hart has tried for a page or no other hart
-    /// of the worker waits for a frame, the next worker gets it that waits for one.
-    pub fn let_others_reclaim(&self, worker: u32, has_tried: bool) {
+    /// A worker's harts were served: where it has the turn to make room and another worker waits for a frame, the next one gets it.
+    pub fn let_others_reclaim(&self, worker: u32) {
         let signals = self.signals();
-        if !signals.has_turn(worker) {
-            return;
-        }
-        if has_tried || signals.hungry_for(worker).is_none() {
-            if signals.others_wait(worker) {
-                signals.pass_turn(worker);
-            }
+        if signals.has_begun(worker) && signals.others_wait(worker) {
+            signals.pass_turn(worker);
         }
     }
 
@@ -222,7 +241,7 @@ impl<L: Ledger, S: SwapSlot> ProcessLocks<L, S> {
         sleep(rt, self.signals().daemon(), calls, millis);
     }
 
-    /// What a hold has seen of a process under its lock, to be told once that is let go: nothing where the process is not the one of its lock's
+    /// What a hold has seen of a process under its lock, which others learn once that is let go: nothing where the process is not the one of its lock's
     /// number, which is noted.
     pub(crate) fn news(&self, number: u32, held: &Held<L, S>, had_ended: bool) -> News {
         if held.process() != number {

@@ -1,6 +1,6 @@
 //! Changed pages are written to their slots while they are used, so that they can leave their frames with no save.
 //!
-//! One page at a time: its cleaning begins, and the harts of its process drop their translations of it, so that the next store tells; after a
+//! One page at a time: its cleaning begins, and the harts of its process drop their translations of it, so that the next store sets its dirty bit; after a
 //! pause, in which a page that is used all the time is stored to, a copy of it is taken and written with no lock held.
 
 use crate::cleaning::HoldWithSlots;
@@ -168,7 +168,7 @@ impl Ahead {
     }
 }
 
-/// The process behind this one, of so many, in a round.
+/// The process after this one, of so many, in a round.
 fn next_process(process: u32, processes: u32) -> u32 {
     let next = process.saturating_add(1);
     if next < processes { next } else { 0 }

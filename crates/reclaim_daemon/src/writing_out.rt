@@ -7,7 +7,7 @@ use crate::gate::Gate;
 use page_store::{WriteJob, WrittenJob};
 use swap_slots::SwapSlot;
 
-/// Writes a page's copy to its slot, once the gate was told. It knows of no lock, so that none is held meanwhile.
+/// Writes a page's copy to its slot, once the gate was called. It knows of no lock, so that none is held meanwhile.
 pub(crate) fn write_slot<S: SwapSlot, P, G: Gate>(gate: &G, job: WriteJob<S, P>) -> WrittenJob<S, P>
     ensures process { result.process ≡ job.process }
     ensures vpn { result.vpn ≡ job.vpn }

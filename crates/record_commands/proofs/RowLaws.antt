@@ -34,19 +34,19 @@ all_times until seed (closing ∷ earlier) rows (before, (tallied, (on, counts))
     omega (arith, one, all)
 
 -- a row counts what some run came to
-pub one_more_row : (image : ImageContent) (input : List ℕ) (file : Fingerprint) (seed : ℕ) (closing : Closing) (rows new : List Row) → CameTo image input file closing → AllRowsCame image input file rows
-    → Counts seed closing rows new → AllRowsCame image input file new
+pub one_more_row : (image : ImageContent) (input : List ℕ) (file : Fingerprint) (limit : ℕ) (seed : ℕ) (closing : Closing) (rows new : List Row) → CameTo image input file limit closing → AllRowsCame image input file limit rows
+    → Counts seed closing rows new → AllRowsCame image input file limit new
 unfolding Counts AllRowsCame
-one_more_row image input file seed closing [] new came all e =
-    subst (AllRowsCame image input file) (sym e) ((closing, (came, record { end = refl; output = refl })), tt)
-one_more_row image input file seed closing (row ∷ rows) new came all (inl (like, e)) =
-    subst (AllRowsCame image input file) (sym e) ((closing, (came, record { end = like.end; output = like.output })), all.1)
-one_more_row image input file seed closing (row ∷ rows) new came all (inr (unlike, (later, (e, counts)))) =
-    subst (AllRowsCame image input file) (sym e) (all.0, one_more_row image input file seed closing rows later came all.1 counts)
+one_more_row image input file limit seed closing [] new came all e =
+    subst (AllRowsCame image input file limit) (sym e) ((closing, (came, record { end = refl; output = refl })), tt)
+one_more_row image input file limit seed closing (row ∷ rows) new came all (inl (like, e)) =
+    subst (AllRowsCame image input file limit) (sym e) ((closing, (came, record { end = like.end; output = like.output })), all.1)
+one_more_row image input file limit seed closing (row ∷ rows) new came all (inr (unlike, (later, (e, counts)))) =
+    subst (AllRowsCame image input file limit) (sym e) (all.0, one_more_row image input file limit seed closing rows later came all.1 counts)
 
-pub all_rows : (image : ImageContent) (input : List ℕ) (file : Fingerprint) (until : Option ℕ) (seed : ℕ) (closings : List Closing) (rows : List Row) → AllCame image input file closings → Tallies until seed closings rows
-    → AllRowsCame image input file rows
+pub all_rows : (image : ImageContent) (input : List ℕ) (file : Fingerprint) (limit : ℕ) (until : Option ℕ) (seed : ℕ) (closings : List Closing) (rows : List Row) → AllCame image input file limit closings → Tallies until seed closings rows
+    → AllRowsCame image input file limit rows
 unfolding AllCame AllRowsCame Tallies
-all_rows image input file until seed [] rows came e = subst (AllRowsCame image input file) (sym e) tt
-all_rows image input file until seed (closing ∷ earlier) rows came (before, (tallied, (on, counts))) =
-    one_more_row image input file (seed + length earlier) closing before rows came.0 (all_rows image input file until seed earlier before came.1 tallied) counts
+all_rows image input file limit until seed [] rows came e = subst (AllRowsCame image input file limit) (sym e) tt
+all_rows image input file limit until seed (closing ∷ earlier) rows came (before, (tallied, (on, counts))) =
+    one_more_row image input file limit (seed + length earlier) closing before rows came.0 (all_rows image input file limit until seed earlier before came.1 tallied) counts

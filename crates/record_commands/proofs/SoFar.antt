@@ -18,23 +18,23 @@ folder_of request = option_map (λ s. s.now) request.folder
 -- so many runs were counted
 pub record ExploredSoFar (takes : List ℕ → List ℕ → Type 0) (request : ExploreRequest) (image : ImageContent) (input : List ℕ) (file : Fingerprint) (done : ℕ) (rows : List Row) : Type 0 where
   pub closings : List Closing
-  pub came : AllCame image input file closings
+  pub came : AllCame image input file request.limit closings
   pub tallied : Tallies request.until request.seed closings rows
   pub many : length closings ≡ done
-  pub saved : AreSaved takes image input file (folder_of request) rows
+  pub saved : AreSaved takes image input file request.limit (folder_of request) rows
 
 pub nothing_explored : (takes : List ℕ → List ℕ → Type 0) (request : ExploreRequest) (image : ImageContent) (input : List ℕ) (file : Fingerprint) (rows : List Row) → rows ≡ []
     → ExploredSoFar takes request image input file 0 rows
 unfolding AllCame Tallies AreSaved
 nothing_explored takes request image input file rows none =
-    record { closings = []; came = tt; tallied = none; many = refl; saved = subst (AreSaved takes image input file (folder_of request)) (sym none) tt }
+    record { closings = []; came = tt; tallied = none; many = refl; saved = subst (AreSaved takes image input file request.limit (folder_of request)) (sym none) tt }
 
 -- a run came to what its record tells
-came : (image : ImageContent) (input : List ℕ) (file : Fingerprint) (told : RecordValue) → IsRunOf image input file told → CameTo image input file told.closing
-came image input file told run = record { told = told; closing_is = refl; of_image = run.of_image; of_input = run.of_input; after = run.after; replays = run.replays }
+came : (image : ImageContent) (input : List ℕ) (file : Fingerprint) (limit : ℕ) (told : RecordValue) → IsRunOf image input file limit told → CameTo image input file limit told.closing
+came image input file limit told run = record { told = told; closing_is = refl; run = run }
 
 pub one_more_explored : (takes : List ℕ → List ℕ → Type 0) (request : ExploreRequest) (image : ImageContent) (input : List ℕ) (file : Fingerprint) (done : ℕ) (rows new : List Row) (told : RecordValue) (own : ℕ)
-    → ExploredSoFar takes request image input file done rows → GoesOn request.until rows → IsRunOf image input file told → own ≡ request.seed + done → Counts own told.closing rows new
+    → ExploredSoFar takes request image input file done rows → GoesOn request.until rows → IsRunOf image input file request.limit told → own ≡ request.seed + done → Counts own told.closing rows new
     → AreNoted takes (folder_of request) told rows new → ExploredSoFar takes request image input file (done + 1) new
 unfolding AllCame Tallies AreNoted
 one_more_explored takes request image input file done rows new told own so_far on run own_is counts noted =
@@ -42,10 +42,10 @@ one_more_explored takes request image input file done rows new told own so_far o
     let next : own ≡ request.seed + length so_far.closings = omega (arith, own_is, many) in
     record {
       closings = told.closing ∷ so_far.closings;
-      came = (came image input file told run, so_far.came);
+      came = (came image input file request.limit told run, so_far.came);
       tallied = (rows, (so_far.tallied, (on, subst (λ (n : ℕ). Counts n told.closing rows new) next counts)));
       many = omega (arith, many);
-      saved = noted image input file run so_far.saved;
+      saved = noted image input file request.limit run so_far.saved;
     }
 
 pub few_so_far : (takes : List ℕ → List ℕ → Type 0) (request : ExploreRequest) (image : ImageContent) (input : List ℕ) (file : Fingerprint) (done : ℕ) (rows : List Row)

@@ -1,47 +1,42 @@
 -- What the runs of a program by schedules come to.
 use Rattle.std.specs.Prelude.{◌≡◌, ℕ, ◌≤◌, ◌⊎◌, ⊤, List, [], ◌∷◌, length, Option, option_map}
 use Rattle.elf_image.specs.Image.{ImageContent}
-use Rattle.flat_machine.specs.Process.{Process, opening}
 use Rattle.image_files.specs.Reading.{HoldsImage}
 use Rattle.image_files.specs.WholeBytes.{AreWhole}
 use Rattle.run_records.specs.Prints.{print_of}
 use Rattle.run_records.specs.Records.{RecordValue}
-use Rattle.run_records.specs.Replaying.{Replays}
 use Rattle.run_records.specs.declared.fingerprint.Fingerprint.{Fingerprint}
 use Rattle.run_records.specs.declared.record.Closing.{Closing}
 use Rattle.record_commands.specs.Rows.{GoesOn, IsLike, Tallies}
-use Rattle.record_commands.specs.Saved.{AreSaved}
+use Rattle.record_commands.specs.Saved.{AreSaved, IsRunOf}
 use Rattle.record_commands.specs.declared.request.ExploreRequest.{ExploreRequest}
 use Rattle.record_commands.specs.declared.row.Row.{Row}
 
--- some flat run of an image on an input came to this: its record, which names the image's file and the input, replays
-pub record CameTo (image : ImageContent) (input : List ℕ) (file : Fingerprint) (closing : Closing) : Type 0 where
+-- some flat run of an image on an input, of no more steps than are allowed, came to this
+pub record CameTo (image : ImageContent) (input : List ℕ) (file : Fingerprint) (limit : ℕ) (closing : Closing) : Type 0 where
   pub told : RecordValue
   pub closing_is : told.closing ≡ closing
-  pub of_image : told.image ≡ file
-  pub of_input : told.input ≡ print_of input
-  pub after : Process
-  pub replays : Replays told (opening image input) after
+  pub run : IsRunOf image input file limit told
 
 -- each of these is what a run came to
-unfoldable pub AllCame : ImageContent → List ℕ → Fingerprint → List Closing → Type 0
-AllCame image input file [] = ⊤
-AllCame image input file (closing ∷ earlier) = CameTo image input file closing × AllCame image input file earlier
+unfoldable pub AllCame : ImageContent → List ℕ → Fingerprint → ℕ → List Closing → Type 0
+AllCame image input file limit [] = ⊤
+AllCame image input file limit (closing ∷ earlier) = CameTo image input file limit closing × AllCame image input file limit earlier
 
 -- each row is like some run
-unfoldable pub AllRowsCame : ImageContent → List ℕ → Fingerprint → List Row → Type 0
-AllRowsCame image input file [] = ⊤
-AllRowsCame image input file (row ∷ rows) = ((closing : Closing) × (CameTo image input file closing × IsLike closing row)) × AllRowsCame image input file rows
+unfoldable pub AllRowsCame : ImageContent → List ℕ → Fingerprint → ℕ → List Row → Type 0
+AllRowsCame image input file limit [] = ⊤
+AllRowsCame image input file limit (row ∷ rows) = ((closing : Closing) × (CameTo image input file limit closing × IsLike closing row)) × AllRowsCame image input file limit rows
 
 -- Rows count so many runs, from a seed on, or fewer where as many rows came as are wanted. Each is saved. `takes` tells, of a name, of which bytes
 -- a file of it was made.
 pub record IsExplored (takes : List ℕ → List ℕ → Type 0) (request : ExploreRequest) (image : ImageContent) (input : List ℕ) (file : Fingerprint) (rows : List Row) : Type 0 where
   pub closings : List Closing
-  pub came : AllCame image input file closings
+  pub came : AllCame image input file request.limit closings
   pub tallied : Tallies request.until request.seed closings rows
   pub within : length closings ≤ request.runs
   pub over : (length closings ≡ request.runs) ⊎ (¬ GoesOn request.until rows)
-  pub saved : AreSaved takes image input file (option_map (λ s. s.now) request.folder) rows
+  pub saved : AreSaved takes image input file request.limit (option_map (λ s. s.now) request.folder) rows
 
 -- rows count the runs of the named image on the whole input; `gives` tells, of a name, the bytes that a file of it may be found to hold
 pub record Explores (gives takes : List ℕ → List ℕ → Type 0) (request : ExploreRequest) (known : Option (List ℕ)) (rows : List Row) : Type 0 where

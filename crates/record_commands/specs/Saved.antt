@@ -3,6 +3,9 @@ use Rattle.std.specs.Prelude.{◌≡◌, ℕ, ⊤, List, [], ◌∷◌, ◌++◌
 use Rattle.std.specs.Fmt.{decimal}
 use Rattle.elf_image.specs.Image.{ImageContent}
 use Rattle.flat_machine.specs.Process.{Process, opening}
+use Rattle.flat_machine.specs.Schedule.{IsJoined}
+use Rattle.guest_records.specs.GoingOn.{EndsWithin}
+use Rattle.run_records.specs.Fitting.{IsRecord}
 use Rattle.run_records.specs.Prints.{print_of}
 use Rattle.run_records.specs.Records.{RecordValue, record_text}
 use Rattle.run_records.specs.Replaying.{Replays}
@@ -10,12 +13,16 @@ use Rattle.run_records.specs.declared.fingerprint.Fingerprint.{Fingerprint}
 use Rattle.record_commands.specs.Rows.{IsLike}
 use Rattle.record_commands.specs.declared.row.Row.{Row}
 
--- a record of an image's file and an input that replays on them
-pub record IsRunOf (image : ImageContent) (input : List ℕ) (file : Fingerprint) (told : RecordValue) : Type 0 where
+-- A record of an image's file and an input replays on them. It is of as many steps as are allowed, or of fewer where the process has ended or the
+-- schedule is full.
+pub record IsRunOf (image : ImageContent) (input : List ℕ) (file : Fingerprint) (limit : ℕ) (told : RecordValue) : Type 0 where
   pub of_image : told.image ≡ file
   pub of_input : told.input ≡ print_of input
   pub after : Process
   pub replays : Replays told (opening image input) after
+  pub stops : EndsWithin limit told after
+  pub joined : IsJoined told.turns
+  pub fits : IsRecord told
 
 -- the name of the record of the run by a seed in a folder
 abbrev pub record_name : List ℕ → ℕ → List ℕ
@@ -29,17 +36,17 @@ module _ (takes : List ℕ → List ℕ → Type 0) where
   SavesIn (Some folder) seed told = takes (record_name folder seed) (record_text told)
 
   -- a row has the ending and the output of the flat run by the turns of a record, which is saved by the row's seed
-  pub record IsSaved (image : ImageContent) (input : List ℕ) (file : Fingerprint) (folder : Option (List ℕ)) (row : Row) : Type 0 where
+  pub record IsSaved (image : ImageContent) (input : List ℕ) (file : Fingerprint) (limit : ℕ) (folder : Option (List ℕ)) (row : Row) : Type 0 where
     pub told : RecordValue
-    pub run : IsRunOf image input file told
+    pub run : IsRunOf image input file limit told
     pub like : IsLike told.closing row
     pub saved : SavesIn folder row.seed told
 
-  unfoldable pub AreSaved : ImageContent → List ℕ → Fingerprint → Option (List ℕ) → List Row → Type 0
-  AreSaved image input file folder [] = ⊤
-  AreSaved image input file folder (row ∷ rows) = IsSaved image input file folder row × AreSaved image input file folder rows
+  unfoldable pub AreSaved : ImageContent → List ℕ → Fingerprint → ℕ → Option (List ℕ) → List Row → Type 0
+  AreSaved image input file limit folder [] = ⊤
+  AreSaved image input file limit folder (row ∷ rows) = IsSaved image input file limit folder row × AreSaved image input file limit folder rows
 
   -- these rows are saved where those were, once a run with this record was counted
   unfoldable pub AreNoted : Option (List ℕ) → RecordValue → List Row → List Row → Type 0
   AreNoted folder told before after =
-      (image : ImageContent) (input : List ℕ) (file : Fingerprint) → IsRunOf image input file told → AreSaved image input file folder before → AreSaved image input file folder after
+      (image : ImageContent) (input : List ℕ) (file : Fingerprint) (limit : ℕ) → IsRunOf image input file limit told → AreSaved image input file limit folder before → AreSaved image input file limit folder after

@@ -7,14 +7,14 @@ ghost use Rattle.record_commands.specs.Rows.{Counts, GoesOn, times_of};
 ghost use Rattle.record_commands.specs.Saved.{AreNoted, IsRunOf};
 
 use crate::fault::RecordsFault;
-use crate::progress::show_progress;
+use crate::progress::{show_progress, show_size};
 use crate::request::{By, ExploreRequest};
 use crate::row::Row;
 use crate::saving::save;
 use crate::table::count;
 use elf_image::Image;
 use guest_io::WholeFiles;
-use guest_records::{Way, count_usual_steps, explore_run};
+use guest_records::{Way, explore_run, measure_runs};
 use image_files::Folder;
 use run_records::{Fingerprint, Record};
 use std::alloc::{AllocError, Global};
@@ -40,7 +40,7 @@ pub(crate) fn explore<'a, R: Folder + WholeFiles + AllocGlobal, E: Write>(
     ensures { IfOk result (λ rows. IsExplored R.takes request.now program.now.image.now
         program.now.input.now program.now.file rows.items) }
 {
-    let way = way_of(rt.alloc(), program, request)?;
+    let way = way_of(rt.alloc(), program, request, err)?;
     let mut rows = Vec::new(rt.alloc());
     'runs: for done in 0..request.runs {
         if !goes_on(request.until, rows.as_slice()) {
@@ -75,18 +75,26 @@ fn note<'a, R: Folder + WholeFiles + AllocGlobal>(
     Ok(())
 }
 
-/// How turns are chosen: by priorities for runs of as many steps as the program takes by turns of one instruction.
-fn way_of(
+/// How turns are chosen: by priorities for runs as they are measured. That is shown above a table.
+fn way_of<E: Write>(
     alloc: Global,
     program: &Program<'_>,
     request: &ExploreRequest<'_>,
+    err: &mut E,
 ) -> Result<Way, AllocError> {
     match request.by {
         By::Turns => Ok(Way::Turns),
         By::Priorities { depth } => {
-            let input = Vec::from_slice(alloc, program.input)?;
-            let steps = count_usual_steps(alloc, program.image, input, request.limit)?;
-            Ok(Way::Priorities { depth, steps })
+            let size = measure_runs(alloc, program.image, program.input, request.limit)?;
+            let patience = size.patience(request.limit);
+            if !request.is_csv {
+                show_size(size, patience, err);
+            }
+            Ok(Way::Priorities {
+                depth,
+                steps: size.steps,
+                patience,
+            })
         }
     }
 }
@@ -110,7 +118,7 @@ fn run_once(
     limit: u64,
 ) -> Result<Record, AllocError>
     ensures { IfOk result (λ told. IsRunOf program.now.image.now program.now.input.now
-        program.now.file (value_of told)) }
+        program.now.file limit (value_of told)) }
 {
     let input = Vec::from_slice(alloc, program.input)?;
     explore_run(alloc, program.image, program.file, input, seed, way, limit)

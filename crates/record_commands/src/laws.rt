@@ -18,7 +18,7 @@ pub fn counts_add_up()
 /// Each row is like some run, whose record replays.
 #[tactic(auto, using(crate::proofs::RowLaws::all_rows))]
 pub fn rows_come_from_runs()
-    ensures { (image : ImageContent) (input : List ℕ) (file : Fingerprint) (until : Option ℕ)
-        (seed : ℕ) (closings : List Closing) (rows : List Row) → AllCame image input file closings →
-        Tallies until seed closings rows → AllRowsCame image input file rows }
+    ensures { (image : ImageContent) (input : List ℕ) (file : Fingerprint) (limit : ℕ) (until : Option ℕ)
+        (seed : ℕ) (closings : List Closing) (rows : List Row) → AllCame image input file limit closings →
+        Tallies until seed closings rows → AllRowsCame image input file limit rows }
 {}

@@ -10,7 +10,7 @@ use std::io::{Read, Write};
 use thiserror::Error;
 
 /// The exit status where a fault stopped the command.
-const FAULT: u8 = 2;
+const FAULT: u8 = 126;
 
 /// Why the command stops.
 #[derive(Debug, Drop, Error)]
@@ -33,7 +33,7 @@ impl<'a> From<RecordsFault<'a>> for ExploreFault<'a> {
     }
 }
 
-/// Runs the command on the words after the program's name, of which `explore` is the first, and returns its exit status: 0, or 2 for a fault,
+/// Runs the command on the words after the program's name, of which `explore` is the first, and returns its exit status: 0, or 126 for a fault,
 /// which is printed to `err`. While it is watched, `err` shows how many runs are done.
 pub fn explore_program<R, S, I, O, E>(
     rt: &R,

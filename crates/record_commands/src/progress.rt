@@ -1,5 +1,6 @@
-//! How many runs are done, on a line of a terminal.
+//! What runs are like, and how many are done, on lines of a terminal.
 
+use guest_records::RunSize;
 use std::io::Write;
 
 /// The line is written anew behind so many runs.
@@ -16,5 +17,20 @@ pub(crate) fn show_progress<E: Write>(done: u32, runs: u32, rows: usize, err: &m
 /// Takes the line away.
 pub(crate) fn end_progress<E: Write>(err: &mut E) {
     let _ = write!(err, "\r\x1b[K");
+    let _ = err.flush();
+}
+
+/// Shows what runs are taken to be like.
+pub(crate) fn show_size<E: Write>(size: RunSize, patience: u64, err: &mut E) {
+    let (harts, steps) = (size.harts, size.steps);
+    let found = if size.has_ended {
+        "of a run that ended"
+    } else {
+        "then nothing new came"
+    };
+    let _ = writeln!(
+        err,
+        "guest: {harts} harts; k {steps}, {found}; a hart waits after {patience} steps in a row",
+    );
     let _ = err.flush();
 }

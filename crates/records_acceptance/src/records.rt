@@ -2,7 +2,7 @@
 
 use elf_image::Image;
 use flat_machine::{End, FlatProcess};
-use guest_records::{Way, count_usual_steps, explore_run};
+use guest_records::{RunSize, Way, explore_run, measure_runs};
 use run_records::{
     Record, RecordFault, ReplayFault, read_record, replay, take_fingerprint, write_record,
 };
@@ -212,9 +212,9 @@ fn explored(rt: &impl Abort, alloc: Global, image: &Image, way: Way) -> Record {
     explore_run(alloc, image, file, Vec::new(alloc), 7, way, 1000).expect(rt, "no record")
 }
 
-/// How many instructions the program runs, of at most so many.
-fn usual_steps(rt: &impl Abort, alloc: Global, image: &Image, limit: u64) -> u64 {
-    count_usual_steps(alloc, image, Vec::new(alloc), limit).expect(rt, "no steps")
+/// What runs of the program are like, of at most so many instructions.
+fn measured(rt: &impl Abort, alloc: Global, image: &Image, limit: u64) -> RunSize {
+    measure_runs(alloc, image, &[], limit).expect(rt, "not measured")
 }
 
 fn ends_in_one_turn(rt: &impl Abort, alloc: Global, image: &Image, record: &Record) {
@@ -227,9 +227,26 @@ fn ends_in_one_turn(rt: &impl Abort, alloc: Global, image: &Image, record: &Reco
 fn one_hart_has_one_turn(rt: HostRuntime) {
     let alloc = rt.alloc();
     let image = image_of_words(&rt, alloc);
-    assert!(rt; usual_steps(&rt, alloc, &image, 1000) == 9);
-    assert!(rt; usual_steps(&rt, alloc, &image, 5) == 5);
-    let way = Way::Priorities { depth: 3, steps: 9 };
+    let whole = RunSize {
+        harts: 1,
+        steps: 9,
+        has_ended: true,
+    };
+    let part = RunSize {
+        harts: 1,
+        steps: 5,
+        has_ended: false,
+    };
+    assert!(rt; measured(&rt, alloc, &image, 1000) == whole);
+    assert!(rt; measured(&rt, alloc, &image, 5) == part);
+    assert!(rt; whole.patience(1000) == 72);
+    assert!(rt; whole.patience(80) == 10);
+    assert!(rt; whole.patience(8) == 9);
+    let way = Way::Priorities {
+        depth: 3,
+        steps: 9,
+        patience: 72,
+    };
     let record = explored(&rt, alloc, &image, way);
     ends_in_one_turn(&rt, alloc, &image, &record);
 }

@@ -8,6 +8,7 @@ use page_policies::{
 };
 use std::alloc::Global;
 use std::process::Abort;
+use textbook_policies::{Car, GClock, Lfu, LruK, Mru, textbook_policies_are_plays};
 use whole_strings::{lru_curve, next_uses, optimum_counts};
 use younger_policies::{
     Arc, ClockPro, ClockProUsed, Lirs, S3Fifo, Sieve, TwoQueues, clock_pro_is_a_play,
@@ -80,6 +81,17 @@ fn younger_policies_miss_as_in_the_model(rt: HostRuntime) {
     assert!(rt; with_three_and_four::<RandomPolicy>(&rt, alloc) == (10, 6));
 }
 
+/// The counts of `tests/policies-model`; those of MRU and LFU are also those of `scripts/by-hand`.
+#[test]
+fn textbook_policies_miss_as_in_the_model(rt: HostRuntime) {
+    let alloc = rt.alloc();
+    assert!(rt; with_three_and_four::<Mru>(&rt, alloc) == (7, 6));
+    assert!(rt; with_three_and_four::<Lfu>(&rt, alloc) == (10, 8));
+    assert!(rt; with_three_and_four::<LruK>(&rt, alloc) == (10, 8));
+    assert!(rt; with_three_and_four::<GClock>(&rt, alloc) == (9, 7));
+    assert!(rt; with_three_and_four::<Car>(&rt, alloc) == (10, 8));
+}
+
 /// A page comes in with its mark clear, or set.
 #[test]
 fn both_profiles_of_clock_pro_play(rt: HostRuntime) {
@@ -112,5 +124,6 @@ fn laws_hold(_: HostRuntime) {
     no_policy_misses_less();
     optimum_is_a_play();
     younger_policies_are_plays();
+    textbook_policies_are_plays();
     clock_pro_is_a_play();
 }

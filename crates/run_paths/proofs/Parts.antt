@@ -1,5 +1,5 @@
 -- Parts of paths, stretch by stretch.
-use Rattle.std.proofs.Common.{◌≡◌, ℕ, zero, suc, ◌+◌, ◌-◌, ◌<◌, ◌≤◌, min, nat_lt, Bool, true, false, List, [], ◌∷◌, ◌++◌, length, take, drop, slice_index_or, Some, None, refl, sym, ap, ◌∙◌, arith, append-nil, append_assoc}
+use Rattle.std.proofs.Common.{◌≡◌, ℕ, zero, suc, ◌+◌, ◌-◌, ◌<◌, ◌≤◌, ◌^◌, min, nat_lt, Bool, true, false, List, [], ◌∷◌, ◌++◌, length, take, drop, slice_index_or, Option, Some, None, IfNone, refl, sym, ap, ◌∙◌, arith, append-nil, append_assoc}
 use Rattle.std.proofs.lemmas.List.{take_all, take_more, map-append, drop_all}
 use Rattle.flat_machine.specs.declared.schedule.Turn.{Turn}
 use Rattle.run_paths.specs.declared.path.Stretch.{Stretch}
@@ -117,3 +117,21 @@ count_more path n count more stretch within is e sum = sum ∙ ap (λ k. k + str
 
 pub count_all : (path : List Stretch) (n count : ℕ) → length path ≤ n → count ≡ steps_of (take n path) → count ≡ steps_of path
 count_all path n count all e = e ∙ ap steps_of (take_all n path all)
+
+-- a beginning has no more steps than the whole
+steps_begun : (path : List Stretch) (n : ℕ) → steps_of (take n path) ≤ steps_of path
+unfolding steps_of
+steps_begun path zero = omega arith
+steps_begun [] (suc n) = omega arith
+steps_begun (stretch ∷ path) (suc n) = let rest = steps_begun path n in omega (arith, rest)
+
+count_many : (path : List Stretch) (n count : ℕ) (stretch : Stretch) → n < length path → stretch ≡ slice_index_or path n stretch → count ≡ steps_of (take n path) → 2 ^ 64 ≤ count + stretch.count → 2 ^ 64 ≤ steps_of path
+count_many path n count stretch within is e many =
+    let more = steps_more path n stretch within is in
+    let begun = steps_begun path (n + 1) in
+    omega (arith, more, begun, e, many)
+
+pub count_none : (result : Option ℕ) (path : List Stretch) (n count : ℕ) (stretch : Stretch) → n < length path → stretch ≡ slice_index_or path n stretch → count ≡ steps_of (take n path) → 2 ^ 64 ≤ count + stretch.count
+    → IfNone result (2 ^ 64 ≤ steps_of path)
+count_none None path n count stretch within is e many = count_many path n count stretch within is e many
+count_none (Some other) path n count stretch within is e many = tt

@@ -1,6 +1,6 @@
 //! Whose steps a run was made of, in order.
 
-ghost use Rattle.std.specs.Prelude.{◌≡◌, ◌++◌, ◌+◌, ◌≤◌, ◌<◌, ◌^◌, true, IfOk, IfSome, OnOk, length};
+ghost use Rattle.std.specs.Prelude.{◌≡◌, ◌++◌, ◌+◌, ◌≤◌, ◌<◌, ◌^◌, true, IfNone, IfOk, IfSome, OnOk, length};
 ghost use Rattle.run_paths.specs.Extending.{Extends, GoesOn, IsCounted, Lengthens};
 ghost use Rattle.run_paths.specs.declared.path.Whose.TheVariants as whose;
 ghost use Rattle.run_paths.specs.Paths.{hart_of, part_of, path_of, steps_of, taken_of, whose_at};
@@ -66,7 +66,8 @@ fn stretch_of(turn: Turn) -> Stretch
 /// How many steps a path has, if that is a number that is counted here.
 #[tactic(auto, using(crate::proofs::Parts::count_more, crate::proofs::Parts::count_all))]
 pub fn count_of(path: &[Stretch]) -> Option<u64>
-    ensures { IfSome result (λ count. count ≡ steps_of path.now) }
+    ensures counted { IfSome result (λ count. count ≡ steps_of path.now) }
+    ensures many { IfNone result (2 ^ 64 ≤ steps_of path.now) }
 {
     let mut count: u64 = 0;
     'stretches: for stretch in path {
@@ -77,7 +78,8 @@ pub fn count_of(path: &[Stretch]) -> Option<u64>
 
 /// The sum, if it is counted here.
 fn sum_of(one: u64, other: u64) -> Option<u64>
-    ensures { IfSome result (λ sum. sum ≡ one + other) }
+    ensures sum { IfSome result (λ sum. sum ≡ one + other) }
+    ensures large { IfNone result (2 ^ 64 ≤ one + other) }
 {
     one.checked_add(other)
 }

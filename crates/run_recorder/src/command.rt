@@ -1,11 +1,12 @@
 //! The command.
 
-ghost use Rattle.std.specs.Prelude.{◌≡◌, ◌<◌, IfOk, OnOk};
+ghost use Rattle.std.specs.Prelude.{◌≡◌, ◌<◌, IfErr, IfOk, OnOk};
+ghost use Rattle.std.specs.Io.KnownBytes.{Appends};
 ghost use Rattle.elf_image.specs.Start.{start_of};
 ghost use Rattle.machine_sides.specs.FlatLines.{StandsForRun};
 ghost use Rattle.machine_sides.specs.Reporting.{told};
 ghost use Rattle.run_records.specs.Records.{record_text, value_of};
-ghost use Rattle.run_recorder.specs.Recorded.{RanBy, RunsRecorded};
+ghost use Rattle.run_recorder.specs.Recorded.{IsEarly, IsKept, RanBy, RunsRecorded};
 ghost use Rattle.run_recorder.specs.Requests.{IsInRange};
 
 use crate::crew::run_by_crew;
@@ -20,12 +21,14 @@ use image_files::{Folder, image_in};
 use machine_sides::ProcessReport;
 use run_records::{Record, take_fingerprint, write_record};
 use std::alloc::Global;
+use std::io;
 use std::io::{Read, Write};
 use std::sync::Wait;
 use std::thread::Threads;
 
-/// Runs a program on a machine, writes its output to `out` and the record of its run to the file that is asked for, and returns
-/// the exit status. The image is read before the input. The size of the record is printed to `err`.
+/// Runs a program on a machine, saves the record of its run in the file that is asked for, writes its output to `out`, and returns
+/// the exit status. The image is read before the input, and nothing is run where the file can't be made. Output that can't be written
+/// loses no record, nor a record that can't be saved the output. The size of the record is printed to `err`.
 pub fn run_record<'a, R, I, O, E>(
     rt: &R,
     request: &RecordRequest<'a>,
@@ -39,8 +42,9 @@ where
     O: Write,
     E: Write,
     requires in_range { IsInRange request.now }
-    ensures { IfOk result (RunsRecorded R.gives R.takes request.now (I.remaining input)
+    ensures recorded { IfOk result (RunsRecorded R.gives R.takes request.now (I.remaining input)
         (O.contents out.old) (O.contents out.new)) }
+    ensures kept { IfErr result (IsKept R.gives R.takes request.now (I.remaining input)) }
 {
     let alloc = rt.alloc();
     let file = rt.read(request.image)?;
@@ -48,15 +52,29 @@ where
     let image = image_in(alloc, file, request.image)?;
     let input = read_whole(alloc, input)?;
     let input_print = take_fingerprint(input.as_slice());
+    if rt.try_put(request.record).is_err() {
+        return Err(RecorderFault::NotWritten(request.record));
+    }
     let report = run_machine(rt, request, image, input)?;
-    let (told, output) = record_of(report, image_print, input_print);
-    out.write_all(output.as_slice())?;
-    out.flush()?;
+    let (told, output) = record_of(report, image_print, input_print)?;
+    let saved = save(rt, request.record, &told);
+    let written = write_output(output.as_slice(), out);
+    let bytes = saved?;
+    let Ok(()) = written else {
+        return Err(RecorderFault::NoOutput(request.record));
+    };
     let closing = told.closing;
-    let bytes = save(rt, request.record, &told)?;
     tell_record(request.record, told.turns.len(), bytes, err);
     tell_end(closing.end, closing.steps, err);
     Ok(status_of(closing.end))
+}
+
+/// Writes all output at once.
+fn write_output<O: Write>(output: &[u8], out: &mut O) -> io::Result<()>
+    ensures { OnOk result (Appends (O.contents out.old) (O.contents out.new) output.now) }
+{
+    out.write_all(output)?;
+    out.flush()
 }
 
 /// Runs an image on an input on the machine that is asked for.
@@ -71,6 +89,7 @@ fn run_machine<'a, R: Folder + AllocGlobal + Threads + Wait + Sync>(
         input.items)) }
     ensures flat { IfOk result (λ report. StandsForRun (start_of image input.items)
         (told report)) }
+    ensures early { IfErr result IsEarly }
 {
     let (alloc, frames, slots, slice) = (rt.alloc(), request.frames, request.slots, request.slice);
     match request.driver {
@@ -94,7 +113,8 @@ fn save<'a, R: WholeFiles + AllocGlobal>(
     name: &'a str,
     told: &Record,
 ) -> Result<usize, RecorderFault<'a>>
-    ensures { OnOk result (R.takes name.now (record_text (value_of told.now))) }
+    ensures saved { OnOk result (R.takes name.now (record_text (value_of told.now))) }
+    ensures early { IfErr result IsEarly }
 {
     let mut text = Vec::new(rt.alloc());
     if write_record(told, &mut text).is_err() {

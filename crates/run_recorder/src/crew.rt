@@ -1,10 +1,10 @@
 //! A machine of one process that is run by threads.
 
-ghost use Rattle.std.specs.Prelude.{◌≡◌, ◌<◌, ◌≤◌, IfOk};
+ghost use Rattle.std.specs.Prelude.{◌≡◌, ◌<◌, ◌≤◌, IfErr, IfOk};
 ghost use Rattle.elf_image.specs.Start.{start_of};
 ghost use Rattle.machine_sides.specs.FlatLines.{StandsForRun};
 ghost use Rattle.machine_sides.specs.Reporting.{told};
-ghost use Rattle.run_recorder.specs.Recorded.{RanOnThreads};
+ghost use Rattle.run_recorder.specs.Recorded.{IsEarly, RanOnThreads};
 
 use crate::fault::RecorderFault;
 use clock_ring::ClockRing;
@@ -35,6 +35,7 @@ pub(crate) fn run_by_crew<'a, R: Threads + Wait + Sync>(
         wanted.now) }
     ensures flat { IfOk result (λ report. StandsForRun (start_of image input.items)
         (told report)) }
+    ensures early { IfErr result IsEarly }
 {
     let slots = memory_slots(alloc, slots)?;
     let mut handed = Vec::with_capacity(alloc, 1)?;

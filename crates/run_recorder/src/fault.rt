@@ -3,7 +3,6 @@
 use guest_io::UsageFault;
 use image_files::Fault;
 use std::alloc::AllocError;
-use std::io;
 use thiserror::Error;
 
 /// Why a run is not recorded.
@@ -19,9 +18,17 @@ pub enum RecorderFault<'a> {
     NotSound,
     #[error("{0}: cannot write the record")]
     NotWritten(&'a str),
+    /// The output can't be written. The record is in the file of this name.
+    #[error("cannot write the output; the record is in {0}")]
+    NoOutput(&'a str),
 }
 
 impl<'a> From<Fault<'a>> for RecorderFault<'a> {
+    ghost use Rattle.std.specs.Prelude.{◌≡◌};
+    ghost use Rattle.run_recorder.specs.declared.fault.RecorderFault.TheVariants as fault;
+
+    ghost from_gives = { λ why made. made ≡ fault.Fault why };
+
     fn from(fault: Fault<'a>) -> Self {
         RecorderFault::Fault(fault)
     }
@@ -34,13 +41,13 @@ impl<'a> From<UsageFault<'a>> for RecorderFault<'a> {
 }
 
 impl From<AllocError> for RecorderFault<'_> {
+    ghost use Rattle.std.specs.Prelude.{◌≡◌};
+    ghost use Rattle.image_files.specs.declared.fault.Fault.TheVariants.{NoMemory};
+    ghost use Rattle.run_recorder.specs.declared.fault.RecorderFault.TheVariants as fault;
+
+    ghost from_gives = { λ _ made. made ≡ fault.Fault NoMemory };
+
     fn from(_: AllocError) -> Self {
         RecorderFault::Fault(Fault::NoMemory)
-    }
-}
-
-impl From<io::Error> for RecorderFault<'_> {
-    fn from(error: io::Error) -> Self {
-        RecorderFault::Fault(Fault::from(error))
     }
 }

@@ -9,7 +9,8 @@ ghost use Rattle.machine_sides.specs.declared.report.ProcessReport.{ProcessRepor
 ghost use Rattle.run_records.specs.Records.{RecordValue};
 ghost use Rattle.run_recorder.specs.Recorded.{ReplaysTo, TellsReport};
 
-/// The record of a run whose report stands for a flat run replays: to the output, the ending and as many steps as were reported.
+/// The record of a run whose report stands for a flat run is read again and replays: to the output, the ending and as many steps as were reported. Only
+/// for want of memory can a replay be refused.
 pub fn recorded_is_replayed()
     ensures { (start : Start) (file input : List ℕ) (report : ProcessReport) (record_told :
         RecordValue) → StandsForRun start (told report) →

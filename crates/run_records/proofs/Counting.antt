@@ -4,7 +4,7 @@ use Rattle.std.proofs.lemmas.Bool.Decides.{Decides-eqb}
 use Rattle.std.proofs.lemmas.List.{length-replicate, take_more}
 use Rattle.std.proofs.lemmas.Grind.{flat_map-append}
 use Rattle.flat_machine.specs.declared.schedule.Turn.{Turn}
-use Rattle.flat_machine.specs.Schedule.{written_out, room}
+use Rattle.flat_machine.specs.Schedule.{written_out, room, IsJoined}
 use Rattle.run_records.specs.Replaying.{TakesNoMore}
 
 written_more : (turns : List Turn) (i : ℕ) (t : Turn) → i < length turns → t ≡ slice_index_or turns i t → written_out (take (i + 1) turns) ≡ written_out (take i turns) ++ replicate t.count t.hart
@@ -45,6 +45,6 @@ pub one_more_recorded : (turns : List Turn) (i : ℕ) (t : Turn) (old new : List
 one_more_recorded turns i t old new within at before e =
     e ∙ ap (λ (l : List ℕ). l ++ replicate t.count t.hart) before ∙ sym (written_more turns i t within at)
 
-pub takes_no_more : (turns : List Turn) (i : ℕ) (t : Turn) (schedule : List Turn) → i < length turns → t ≡ slice_index_or turns i t → written_out schedule ≡ written_out (take i turns) → room schedule t.hart < t.count
-    → TakesNoMore turns
-takes_no_more turns i t schedule within at same full = record { before = i; next = t; schedule = schedule; there = within; is_next = at; same = same; full = full }
+pub takes_no_more : (turns : List Turn) (i : ℕ) (t : Turn) (schedule : List Turn) → i < length turns → t ≡ slice_index_or turns i t → IsJoined schedule → written_out schedule ≡ written_out (take i turns)
+    → room schedule t.hart < t.count → TakesNoMore turns
+takes_no_more turns i t schedule within at joined same full = record { before = i; next = t; schedule = schedule; joined = joined; there = within; is_next = at; same = same; full = full }

@@ -6,3 +6,6 @@ pub mod Cuts
 pub mod Ends
 pub mod TurnTexts
 pub mod Turning
+pub mod Joined
+pub mod Refusing
+pub mod Fitting

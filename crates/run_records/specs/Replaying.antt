@@ -2,7 +2,7 @@
 use Rattle.std.specs.Prelude.{◌≡◌, ◌≢◌, ℕ, ◌<◌, ⊤, List, length, take, slice_index_or, Option, Some, None}
 use Rattle.flat_machine.specs.Process.{Process, flat_run}
 use Rattle.flat_machine.specs.Refusals.{StopsAt}
-use Rattle.flat_machine.specs.Schedule.{written_out, room}
+use Rattle.flat_machine.specs.Schedule.{written_out, room, IsJoined}
 use Rattle.flat_machine.specs.declared.end.End.{End}
 use Rattle.flat_machine.specs.declared.end.End.TheVariants.{Exited, Trapped, Killed}
 use Rattle.flat_machine.specs.declared.schedule.Turn.{Turn}
@@ -30,11 +30,12 @@ pub record Replays (told : RecordValue) (before after : Process) : Type 0 where
   pub ended : EndsLike told.closing.end after.ending
   pub output : print_of after.environment.output ≡ told.closing.output
 
--- a schedule of the first turns takes no more of the next one
+-- the schedule of the first turns takes no more of the next one
 pub record TakesNoMore (turns : List Turn) : Type 0 where
   pub before : ℕ
   pub next : Turn
   pub schedule : List Turn
+  pub joined : IsJoined schedule
   pub there : before < length turns
   pub is_next : next ≡ slice_index_or turns before next
   pub same : written_out schedule ≡ written_out (take before turns)

@@ -13,8 +13,8 @@ mod writing;
 
 pub use fault::RecordFault;
 pub use fingerprint::{Fingerprint, is_print_of, take_fingerprint};
-pub use laws::{read_records_are_written, written_records_are_read};
+pub use laws::{read_records_are_written, replayed_records_replay, written_records_are_read};
 pub use reading::read_record;
-pub use record::{Closing, Record};
+pub use record::{Closing, Record, are_joined, know_fitting};
 pub use replaying::{ReplayFault, replay};
 pub use writing::{digits_of, write_record};

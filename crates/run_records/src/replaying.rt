@@ -104,6 +104,8 @@ fn schedule_of(alloc: Global, turns: &[Turn]) -> Result<Schedule, ReplayFault>
     };
     'turns: for turn in turns {
         if schedule.room(turn.hart) < u64::from(turn.count) {
+            // For the proof only: its turns are joined.
+            let _ = schedule.turns();
             return Err(ReplayFault::TooManyTurns);
         }
         schedule.record(turn.hart, turn.count);

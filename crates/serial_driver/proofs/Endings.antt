@@ -150,34 +150,4 @@ module _ {S : Type 0} where
   not_there None told = refl
   not_there (Some process) told = cc
 
-  -- one that does not go on has ended, if it is there
-  pub ended_off : (core : CoreValue S) (number : ℕ) → goes_on (slice_get core.processes number) ≡ false → HasEnded core number
-  ended_off core number off process at = some_ending process.running.ending (ap goes_on (sym at) ∙ off)
-    where
-      some_ending : (o : Option End) → is_none o ≡ false → IsSome o
-      some_ending None h = cc
-      some_ending (Some e) h = refl
-
-  -- one more process of a range has ended
-  pub none_more : (core : CoreValue S) (from number : ℕ) → ((other : ℕ) → from ≤ other → other < number → HasEnded core other) → goes_on (slice_get core.processes number) ≡ false
-      → (other : ℕ) → from ≤ other → other < number + 1 → HasEnded core other
-  none_more core from number before off other high low =
-      elim (leb_tells number other) [
-        | inl least ↦ let at = least.1 in let same : number ≡ other = omega (arith, low, at) in subst (HasEnded core) same (ended_off core number off)
-        | inr below ↦ before other high below.1
-      ]
-
-  -- all have, where those of two ranges have
-  pub all_ended : (core : CoreValue S) (count above least : ℕ) → length core.processes ≤ count → ((other : ℕ) → above ≤ other → other < count → HasEnded core other)
-      → ((other : ℕ) → 0 ≤ other → other < least → HasEnded core other) → (above ≤ least) ⊎ (count ≤ least) → (other : ℕ) → HasEnded core other
-  all_ended core count above least many high low reach other =
-      elim (leb_tells count other) [
-        | inl behind ↦ let at = behind.1 in none_behind core other (omega (arith, many, at))
-        | inr within ↦ elim (leb_tells least other) [
-          | inl over ↦ let at = over.1 in let here = within.1 in
-              elim reach [ inl up ↦ high other (omega (arith, at, up)) here | inr all ↦ absurd (omega (arith, at, all, here)) ]
-          | inr under ↦ low other (omega arith) under.1
-        ]
-      ]
-
 pub ruleset is_going_on = (going, gone, not_there)

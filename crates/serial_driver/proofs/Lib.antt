@@ -12,7 +12,6 @@ pub mod Next
 pub mod Owed
 pub mod Reached
 pub mod Recorded
-pub mod Rounds
 pub mod StepsLimited
 pub mod Stopped
 pub mod Tried

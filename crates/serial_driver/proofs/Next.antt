@@ -1,15 +1,13 @@
 -- What comes next may come.
-use Rattle.std.proofs.Common.{◌≡◌, ℕ, ◌<◌, true, false, Option, Some, None, refl, sym, ap, ◌∙◌, arith, subst}
-use Rattle.std.specs.Prelude.{is_some}
+use Rattle.std.proofs.Common.{◌≡◌, ℕ, ◌<◌, false, Option, None, refl, sym, ap, ◌∙◌, arith, subst}
 use Rattle.flat_machine.specs.declared.end.KillCause.TheVariants as cause
 use Rattle.machine_core.specs.declared.event.Event as machine
-use Rattle.clock_policy.specs.declared.key.Key.{Key}
-use Rattle.machine_core.specs.declared.event.Event.TheVariants.{Collect, Kill, Notice, Step}
+use Rattle.machine_core.specs.declared.event.Event.TheVariants.{Notice, Step}
 use Rattle.machine_core.specs.Machine.{CoreValue}
 use Rattle.serial_driver.specs.Nexts.{AreSteps, IsNext, IsOrdinary}
-use Rattle.serial_driver.specs.Rounds.{IsLeastAbove, IsNextHart, NoneAbove}
+use Rattle.serial_driver.specs.Rounds.{IsNextHart}
 use Rattle.serial_driver.specs.Owing.{Duty, Pays, is_only_owed, next_owed}
-use Rattle.serial_driver.specs.Turning.{Clears, IsInTurn, MayCollect, MayNotice, MayStep, Turn}
+use Rattle.serial_driver.specs.Turning.{IsInTurn, MayNotice, MayStep}
 use Rattle.serial_driver.specs.TurnsDuty.{phase_of, turn_of}
 use Rattle.serial_driver.specs.declared.turns.Next.{Next}
 use Rattle.serial_driver.specs.declared.turns.Next.TheVariants.{Event, Steps}
@@ -52,12 +50,3 @@ module _ {S : Type 0} (honest : Type 0) (core : CoreValue S) where
   may_rest turns event is same =
       subst (IsOrdinary honest core (turn_of turns)) (sym same)
       (refl, refl, subst (λ p. MayNotice core p (turn_of turns) turns.running.process turns.running.hart) (sym (ap phase_of is)) (refl, refl))
-
-  -- where a victim's process has dropped its translations up to one hart, the next one may, and where there is none the victim is looked at
-  pub may_clear : (turn : Turn) (victim : Key) (last : Option ℕ) (hart : ℕ) (event : machine.Event) → turn.phase ≡ Clears victim last → event ≡ Notice victim.process hart → IsLeastAbove core victim.process last hart
-      → IsOrdinary honest core turn event
-  may_clear turn victim last hart event is same least =
-      subst (IsOrdinary honest core turn) (sym same) (refl, refl, subst (λ p. MayNotice core p turn victim.process hart) (sym is) (refl, least))
-
-  pub may_collect : (turn : Turn) (victim : Key) (last : Option ℕ) → turn.phase ≡ Clears victim last → NoneAbove core victim.process last → IsOrdinary honest core turn (Collect victim)
-  may_collect turn victim last is none = (refl, refl, subst (λ p. MayCollect core p victim) (sym is) (refl, none))

@@ -10,10 +10,6 @@ module _ {S : Type 0} (held : S → List ℕ) (honest : Type 0) (failures : S �
   pub reaches_one : (old new : CoreValue S) (event : Event) (reply : Reply) → Applies held honest failures event old new reply → LeadsTo held honest failures old new
   reaches_one old new event reply applies = reaches_more held honest failures old old new event reply (reaches_same held honest failures old) applies
 
-  pub reaches_then : (old between late new : CoreValue S) (event : Event) (reply : Reply) → LeadsTo held honest failures old between → LeadsTo held honest failures between late
-      → Applies held honest failures event late new reply → LeadsTo held honest failures old new
-  reaches_then old between late new event reply a b applies = reaches_more held honest failures old late new event reply (reaches_on held honest failures old between late a b) applies
-
   pub reaches_last : (old between late new : CoreValue S) → LeadsTo held honest failures old between → LeadsTo held honest failures between late
       → LeadsTo held honest failures late new → LeadsTo held honest failures old new
   reaches_last old between late new a b c = reaches_on held honest failures old late new (reaches_on held honest failures old between late a b) c

@@ -104,28 +104,6 @@ module _ {S : Type 0} (held : S → List ℕ) (honest : Type 0) (failures : S �
       within = λ low. no_more;
     }
 
-  module _ (slice process limit idle done : ℕ) (first now : CoreValue S) (patience : Patience) (duty : Duty) (playing : Playing slice process limit idle done first now patience duty) where
-    still : steps_at process first ≤ limit → steps_at process now ≤ limit
-    still low = let within = playing.within low in let counted = playing.counted in omega (arith, within, counted)
-
-    pub playing_stuck : idle ≡ 0 → PlaysSome held honest failures slice process limit true first now
-    playing_stuck none = record {
-      count = playing.count;
-      plays = playing.plays.plays;
-      stuck_late = λ stuck. let long = playing.long in omega (arith, long, none);
-      over = λ on. absurd (cc);
-      within = still;
-    }
-
-    pub playing_full : limit ≤ done → PlaysSome held honest failures slice process limit false first now
-    playing_full full = record {
-      count = playing.count;
-      plays = playing.plays.plays;
-      stuck_late = λ stuck. absurd (cc);
-      over = λ on. Reached refl (let counted = playing.counted in omega (arith, full, counted));
-      within = still;
-    }
-
   -- ---- and then the process is given up, if it was stuck
 
   short_over : (process limit count : ℕ) (played new : CoreValue S) → Over held honest failures process limit count played new → steps_at process new < limit → HasEnded new process

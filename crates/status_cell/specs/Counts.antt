@@ -1,3 +1,4 @@
+-- Pairs of steps and bytes of output, and their order.
 use Rattle.std.specs.Prelude.{◌≤◌, max}
 use Rattle.status_cell.specs.declared.status.Status.{Status}
 

@@ -1,3 +1,4 @@
+-- What a cell's writer and viewers know of its pair.
 use Rattle.std.specs.Prelude.{◌≡◌, ℕ, true, false, List}
 use mathlib.Core.Option.{some}
 use lib.ListN.{get_elem?}

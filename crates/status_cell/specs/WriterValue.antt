@@ -1,3 +1,4 @@
+-- The writer of a cell, as callers see it.
 use Rattle.atomic_table.specs.Seated.{TableId}
 use Rattle.status_cell.specs.declared.status.Status.{Status}
 

@@ -37,6 +37,10 @@ impl Gate for Written<'_> {
         }
     }
 
+    fn wants_statuses(&self) -> bool {
+        false
+    }
+
     fn after_free(&self, _statuses: &[Status]) {}
 }
 

@@ -70,6 +70,10 @@ impl Gate for Meeting<'_> {
         }
     }
 
+    fn wants_statuses(&self) -> bool {
+        false
+    }
+
     fn after_free(&self, _statuses: &[Status]) {}
 }
 
@@ -109,6 +113,10 @@ impl Gate for HeldLoad<'_> {
         } else if ran > 0 {
             self.ran.store(1, Ordering::SeqCst);
         }
+    }
+
+    fn wants_statuses(&self) -> bool {
+        false
     }
 
     fn after_free(&self, _statuses: &[Status]) {}
@@ -170,6 +178,10 @@ impl Gate for HeldSave<'_> {
         } else if ran > 0 && self.loads.load(Ordering::SeqCst) != 0 {
             self.ran.store(1, Ordering::SeqCst);
         }
+    }
+
+    fn wants_statuses(&self) -> bool {
+        false
     }
 
     fn after_free(&self, _statuses: &[Status]) {}

@@ -35,6 +35,10 @@ impl Gate for Lengths {
         }
     }
 
+    fn wants_statuses(&self) -> bool {
+        false
+    }
+
     fn after_free(&self, _statuses: &[Status]) {}
 }
 

@@ -65,6 +65,10 @@ impl Gate for Watching {
 
     fn after_slice(&self, _process: u32, _hart: u32, _ran: u32) {}
 
+    fn wants_statuses(&self) -> bool {
+        true
+    }
+
     fn after_free(&self, statuses: &[Status]) {
         if statuses.len() != 2 {
             self.others.fetch_add(1, Ordering::SeqCst);

@@ -80,7 +80,9 @@ impl TinyLfuShares {
             main,
             protected: main * self.protected as usize / 100,
             width: number * self.width.counts(),
-            sample: (number * self.sample as usize).max(1),
+            sample: (number as u64 * u64::from(self.sample))
+                .max(1)
+                .min(usize::MAX as u64) as usize,
         }
     }
 }

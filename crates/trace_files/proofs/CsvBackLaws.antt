@@ -1,25 +1,30 @@
 -- A row of a table that is written of a page is read as that page: proofs.
-use Rattle.std.specs.Prelude.{◌≡◌, ℕ, ◌-◌, ◌^◌, ◌<◌, ◌==◌, ◌&&◌, Bool, true, false, nat_eq, nat_lt, List, [], ◌∷◌, ◌++◌, length, reverse, slice_get, codes, Some, refl}
+use Rattle.std.specs.Prelude.{◌≡◌, ℕ, ◌-◌, ◌^◌, ◌<◌, ◌==◌, ◌&&◌, Bool, true, false, nat_eq, nat_lt, List, [], ◌∷◌, ◌++◌, length, reverse, slice_get, codes, Option, None, Some, refl}
 use Rattle.std.specs.Option.{option_map, option_and_then}
 use Rattle.std.specs.List.{prefix_len, starts_with, ends_with}
 use Rattle.std.specs.Char.{digit_value, is_ascii_whitespace}
 use Rattle.std.specs.Fmt.{decimal}
 use Rattle.std.specs.Str.Parse.{AllDigits, digits_value}
 use Rattle.std.proofs.Common.{arith, sym, ap, subst, ◌∙◌, append_assoc}
-use Rattle.std.proofs.lemmas.Bool.Decides.{Decides-eqb}
+use Rattle.std.proofs.lemmas.Bool.Decides.{Decides-eqb, nat_tests}
 use Rattle.std.proofs.lemmas.Fmt.{decimal_is_IsNumeral}
 use Rattle.std.proofs.lemmas.List.{reverse-append}
 use Rattle.clock_policy.specs.declared.key.Key.{Key}
 use Rattle.text_lines.specs.Text.{ahead}
 use Rattle.trace_lines.specs.Ids.{id_in, written_below}
 use Rattle.trace_lines.proofs.IdLaws.{number_told}
-use Rattle.trace_lines.specs.PageIds.{id_of, page_of_id}
+use Rattle.trace_lines.specs.PageIds.{id_of, more_pages, page_of_id}
 use Rattle.trace_lines.specs.PageLines.{IsPage}
-use Rattle.trace_lines.specs.Columns.{is_id_name, separator_from, fields_from, fields_of, trimmed, unquoted, field_text, place_of_ids, column_of_ids, column_page, column_text, is_first_word}
-use Rattle.trace_lines.specs.Lines.{column_said, page_or, to_page, with_ids, word_said}
-use Rattle.trace_lines.specs.declared.format.IdKind.TheVariants.{Numbers}
+use Rattle.trace_lines.specs.Columns.{is_id_name, separator_from, fields_from, fields_of, trimmed, unquoted, field_text, place_named, table_named, text_in}
+use Rattle.trace_lines.specs.Lines.{to_page, with_ids}
+use Rattle.trace_lines.specs.Rows.{id_of_kind, read_said, row_id, row_said, run_said}
+use Rattle.trace_lines.specs.declared.format.Column.TheVariants.{At}
+use Rattle.trace_lines.specs.declared.format.IdKind.{IdKind}
+use Rattle.trace_lines.specs.declared.format.IdKind.TheVariants.{Numbers, Unknown}
+use Rattle.trace_lines.specs.declared.rows.RowId.{RowId}
+use Rattle.trace_lines.specs.declared.rows.RowId.TheVariants.{Number}
 use Rattle.trace_lines.proofs.ColumnLaws.{take_whole}
-use Rattle.trace_files.specs.Written.{csv_row, header, written_column}
+use Rattle.trace_files.specs.Written.{csv_row, header, usual_table, written_table}
 use Rattle.trace_files.proofs.ReadBackLaws.{Lacks, lacks_both, lacks_digits, other_byte, not_hexadecimal, page_back}
 
 -- ---- fields of digits
@@ -96,9 +101,9 @@ row_is time page =
     append_assoc (decimal time ++ 44 ∷ []) (decimal (id_of page)) (44 ∷ 49 ∷ [])
     ∙ append_assoc (decimal time) (44 ∷ []) (decimal (id_of page) ++ 44 ∷ 49 ∷ [])
 
-pub row_read : (time : ℕ) (page : Key) → time < 2 ^ 64 → IsPage page → column_page written_column (csv_row time page) ≡ Some page
-unfolding column_page column_text
-row_read time page short h =
+-- the second column of a row has the id
+id_column : (time : ℕ) (page : Key) → time < 2 ^ 64 → IsPage page → text_in (Some 44) (At 1) (csv_row time page) ≡ Some (decimal (id_of page))
+id_column time page short h =
     let process = h.process in
     let vpn = h.vpn in
     let small : id_of page < 2 ^ 64 = omega (arith, process, vpn) in
@@ -109,20 +114,37 @@ row_read time page short h =
     ∙ field_before (decimal time) (decimal (id_of page) ++ 44 ∷ 49 ∷ []) first
     ∙ ap (λ (l : List (List ℕ)). decimal time ∷ l) (field_before (decimal (id_of page)) (49 ∷ []) second) in
     let text : field_text (decimal (id_of page)) ≡ decimal (id_of page) = ap unquoted (not_trimmed (decimal (id_of page)) second) ∙ not_quoted (decimal (id_of page)) second in
-    ap (λ (l : List (List ℕ)). option_and_then (λ text. option_map page_of_id (id_in text)) (option_map field_text (slice_get l 1))) fields
-    ∙ ap (λ (l : List ℕ). option_map page_of_id (id_in l)) text
-    ∙ ap (option_map page_of_id) (id_read (id_of page) small)
-    ∙ ap (λ (p : Key). Some p) (page_back page h)
+    ap (λ (l : List (List ℕ)). option_map field_text (slice_get l 1)) fields
+    ∙ ap (λ (l : List ℕ). Some l) text
 
--- so that its line says that page, be it the first or a later one
-pub row_said : (time : ℕ) (page : Key) → time < 2 ^ 64 → IsPage page → column_said written_column (csv_row time page) ≡ Some (to_page page)
-row_said time page short h = ap (page_or (word_said is_first_word (column_text written_column (csv_row time page)))) (row_read time page short h)
+-- no page comes after the only one
+none_more : (id : ℕ) → more_pages id id ≡ Some 0
+unfolding more_pages
+none_more id = grind (arith, nat_tests)
 
-pub later_row_said : (time : ℕ) (page : Key) → time < 2 ^ 64 → IsPage page → column_said (with_ids Numbers written_column) (csv_row time page) ≡ Some (to_page page)
-unfolding column_page column_text
-later_row_said time page short h = ap (option_map to_page) (row_read time page short h)
+one_page : (id : ℕ) (page : Key) → page_of_id id ≡ page → run_said None id id false ≡ Some (to_page page)
+one_page id page is = rw (none_more id) (ap (λ (p : Key). Some (to_page p)) is)
+
+-- a row says its page, where the ids are numbers, or the first one shows it
+module _ (time : ℕ) (page : Key) (short : time < 2 ^ 64) (h : IsPage page) where
+  said_by : (ids : IdKind) → ((text : List ℕ) (number : ℕ) → id_of_kind ids (Some number) text ≡ Some (Number number)) → row_said (with_ids ids written_table) (csv_row time page) ≡ Some (to_page page)
+  unfolding row_said
+  said_by ids takes =
+      let small : id_of page < 2 ^ 64 = let process = h.process in let vpn = h.vpn in omega (arith, process, vpn) in
+      let id : row_id (with_ids ids written_table) (csv_row time page) ≡ Some (Number (id_of page)) =
+      ap (option_and_then (λ text. id_of_kind ids (id_in text) text)) (id_column time page short h)
+      ∙ ap (λ (o : Option ℕ). id_of_kind ids o (decimal (id_of page))) (id_read (id_of page) small)
+      ∙ takes (decimal (id_of page)) (id_of page) in
+      ap (λ (o : Option RowId). read_said (with_ids ids written_table) (csv_row time page) o (Some false)) id
+      ∙ one_page (id_of page) page (page_back page h)
+
+pub first_row_said : (time : ℕ) (page : Key) → time < 2 ^ 64 → IsPage page → row_said written_table (csv_row time page) ≡ Some (to_page page)
+first_row_said time page short h = said_by time page short h Unknown (λ text number. refl)
+
+pub later_row_said : (time : ℕ) (page : Key) → time < 2 ^ 64 → IsPage page → row_said (with_ids Numbers written_table) (csv_row time page) ≡ Some (to_page page)
+later_row_said time page short h = said_by time page short h Numbers (λ text number. refl)
 
 -- the line of names names the column
-pub header_read : column_of_ids header ≡ Some written_column
-unfolding column_of_ids place_of_ids is_id_name trimmed unquoted separator_from fields_from
+pub header_read : table_named usual_table header ≡ Some written_table
+unfolding place_named is_id_name trimmed unquoted separator_from fields_from
 header_read = refl

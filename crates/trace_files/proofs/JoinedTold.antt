@@ -5,7 +5,7 @@ use Rattle.guest_strings.specs.declared.reference.Reference.{Reference}
 use Rattle.trace_files.specs.References.{Trace, Ends, Gives, joined}
 use Rattle.trace_files.specs.ReferenceAnswers.{BreaksBy, IsOver, Tells}
 use Rattle.trace_files.specs.declared.fault.TraceFault.{TraceFault}
-use Rattle.trace_files.specs.declared.fault.TraceFault.TheVariants.{NoMemory, CannotRead, Empty, NoColumn, Line, Text, Record, Compressed}
+use Rattle.trace_files.specs.declared.fault.TraceFault.TheVariants.{NoMemory, CannotRead, Empty, NoColumn, Line, Id, Op, Text, Record, Compressed}
 
 pub last_told : (f h : List ℕ → Trace) (held after : Option Reference) (known rest : Option (List ℕ)) → after ≡ None → IsOver (option_map f known) (option_map h rest)
     → Tells Gives (Ok held) (option_map (λ bytes. joined held (f bytes)) known) (option_map (λ bytes. joined after (h bytes)) rest)
@@ -23,8 +23,10 @@ unfolding joined
 here_breaks held trace NoMemory breaks = tt
 here_breaks held trace (CannotRead name) breaks = tt
 here_breaks held trace (Empty name) breaks = breaks
-here_breaks held trace (NoColumn name) breaks = ap (joined held) breaks
+here_breaks held trace (NoColumn name column) breaks = ap (joined held) breaks
 here_breaks held trace (Line number text) breaks = ap (joined held) breaks
+here_breaks held trace (Id number text) breaks = ap (joined held) breaks
+here_breaks held trace (Op number text) breaks = ap (joined held) breaks
 here_breaks held trace (Text name) breaks = ap (joined held) breaks
 here_breaks held trace (Record number size) breaks = ap (joined held) breaks
 here_breaks held trace (Compressed name compression) breaks = ap (joined held) breaks

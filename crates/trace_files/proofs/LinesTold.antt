@@ -6,38 +6,39 @@ use Rattle.trace_lines.specs.Lines.{csv_behind, format_behind, said, word_of}
 use Rattle.trace_files.specs.References.{Trace, Breaks, counted, flaw_of, is_of_addresses, line_given, line_or, resolved_or, words_after, lines, pieces_of}
 use Rattle.trace_files.specs.ReferenceAnswers.{BreaksBy, IsOver, Passes, TakesPiece}
 use Rattle.trace_files.specs.declared.fault.TraceFault.{TraceFault}
+use Rattle.trace_lines.specs.declared.format.Table.{Table}
 use Rattle.trace_lines.specs.declared.format.TraceFormat.{TraceFormat}
 use Rattle.trace_lines.specs.declared.format.TraceFormat.TheVariants.{Text, Csv, Columns, OracleGeneral, Lackey, DynamoRio}
 use Rattle.trace_lines.specs.declared.trace_line.TraceLine.{TraceLine}
 use Rattle.trace_lines.specs.declared.trace_line.TraceLine.TheVariants.{Refers, Word, LeftOut, Names}
 use Rattle.trace_files.specs.WordNumbers.{resolved, words_behind}
 
-same_table : (line : TraceLine) (bytes : List ℕ) → pieces_of (csv_behind (Some line)) bytes ≡ pieces_of Csv bytes
-same_table (Refers line) bytes = refl
-same_table Word bytes = refl
-same_table LeftOut bytes = refl
-same_table (Names column) bytes = refl
+same_table : (line : TraceLine) (table : Table) (bytes : List ℕ) → pieces_of (csv_behind (Some line) table) bytes ≡ pieces_of (Csv table) bytes
+same_table (Refers line) table bytes = refl
+same_table (Word is_written) table bytes = refl
+same_table LeftOut table bytes = refl
+same_table (Names found) table bytes = refl
 
 -- a line leaves how the bytes behind it are cut
 same_pieces : (line : TraceLine) (format : TraceFormat) (bytes : List ℕ) → pieces_of (format_behind (Some line) format) bytes ≡ pieces_of format bytes
 same_pieces line Text bytes = refl
-same_pieces line Csv bytes = same_table line bytes
-same_pieces line (Columns column) bytes = refl
+same_pieces line (Csv table) bytes = same_table line table bytes
+same_pieces line (Columns table) bytes = refl
 same_pieces line OracleGeneral bytes = refl
 same_pieces line Lackey bytes = refl
 same_pieces line DynamoRio bytes = refl
 
-table_kind : (line : TraceLine) → is_of_addresses (csv_behind (Some line)) ≡ false
-table_kind (Refers line) = refl
-table_kind Word = refl
-table_kind LeftOut = refl
-table_kind (Names column) = refl
+table_kind : (line : TraceLine) (table : Table) → is_of_addresses (csv_behind (Some line) table) ≡ false
+table_kind (Refers line) table = refl
+table_kind (Word is_written) table = refl
+table_kind LeftOut table = refl
+table_kind (Names found) table = refl
 
 -- and whether the trace tells of addresses
 pub same_kind : (line : TraceLine) (format behind : TraceFormat) → behind ≡ format_behind (Some line) format → is_of_addresses behind ≡ is_of_addresses format
 same_kind line Text behind is = ap is_of_addresses is
-same_kind line Csv behind is = ap is_of_addresses is ∙ table_kind line
-same_kind line (Columns column) behind is = ap is_of_addresses is
+same_kind line (Csv table) behind is = ap is_of_addresses is ∙ table_kind line table
+same_kind line (Columns table) behind is = ap is_of_addresses is
 same_kind line OracleGeneral behind is = ap is_of_addresses is
 same_kind line Lackey behind is = ap is_of_addresses is
 same_kind line DynamoRio behind is = ap is_of_addresses is

@@ -1,12 +1,13 @@
 -- Numbers and pages as their digits come: proofs.
-use Rattle.std.specs.Prelude.{◌≡◌, ℕ, ◌+◌, ◌*◌, ◌/◌, ◌%◌, ◌<◌, List, [], ◌∷◌, ◌++◌, refl}
+use Rattle.std.specs.Prelude.{◌≡◌, ℕ, ◌+◌, ◌*◌, ◌/◌, ◌%◌, ◌<◌, false, List, [], ◌∷◌, ◌++◌, refl}
 use Rattle.std.specs.Fmt.{decimal}
 use Rattle.std.proofs.Common.{arith, sym, ap, ◌∙◌, append-nil, append_assoc}
 use Rattle.std.proofs.lemmas.Fmt.{decimal_digit, decimal_step}
 use Rattle.clock_policy.specs.declared.key.Key.{Key}
 use Rattle.clock_policy.specs.Text.{key_text}
-use Rattle.trace_lines.specs.PageLines.{IsPage}
-use Rattle.trace_files.specs.WrittenPages.{EachIsPage, page_lines, AddsPages}
+use Rattle.guest_strings.specs.declared.reference.Reference.{Reference}
+use Rattle.trace_lines.specs.PageLines.{IsPage, referred}
+use Rattle.trace_files.specs.WrittenPages.{EachIsPage, page_lines, read_only, AddsPages}
 
 pub digit_alone : (byte digit : ℕ) (rest : List ℕ) → byte ≡ 48 + digit → digit < 10 → byte ∷ rest ≡ decimal digit ++ rest
 digit_alone byte digit rest is small = ap (λ (c : ℕ). c ∷ rest) is ∙ ap (λ (l : List ℕ). l ++ rest) (sym (decimal_digit digit small))
@@ -37,14 +38,18 @@ pages_after : (pages : List Key) (page : Key) → EachIsPage pages → IsPage pa
 pages_after [] page h here = (here, tt)
 pages_after (p ∷ pages) page h here = (h.0, pages_after pages page h.1 here)
 
-pub none_added : (text : List ℕ) (block : List Key) → AddsPages text text block block
+pub none_added : (text : List ℕ) (block : List Reference) → AddsPages text text block block
 none_added text block = ([], (sym (append-nil block), (refl, tt)))
 
-pub one_added : (text now rest : List ℕ) (old block : List Key) (page : Key) → AddsPages text now old block → now ≡ key_text page ++ 10 ∷ rest → IsPage page → AddsPages text rest old (block ++ page ∷ [])
+read_after : (pages : List Key) (page : Key) → read_only (pages ++ page ∷ []) ≡ read_only pages ++ referred false page ∷ []
+read_after [] page = refl
+read_after (p ∷ pages) page = ap (λ (l : List Reference). referred false p ∷ l) (read_after pages page)
+
+pub one_added : (text now rest : List ℕ) (old block : List Reference) (page : Key) → AddsPages text now old block → now ≡ key_text page ++ 10 ∷ rest → IsPage page → AddsPages text rest old (block ++ referred false page ∷ [])
 one_added text now rest old block page added is here = (
   added.0 ++ page ∷ [],
   (
-    ap (λ (l : List Key). l ++ page ∷ []) added.1.0 ∙ append_assoc old added.0 (page ∷ []),
+    ap (λ (l : List Reference). l ++ referred false page ∷ []) added.1.0 ∙ append_assoc old (read_only added.0) (referred false page ∷ []) ∙ ap (λ (l : List Reference). old ++ l) (sym (read_after added.0 page)),
     (
       added.1.1.0 ∙ ap (λ (l : List ℕ). page_lines added.0 ++ l) is ∙ sym (lines_after added.0 page rest),
       pages_after added.0 page added.1.1.1 here,

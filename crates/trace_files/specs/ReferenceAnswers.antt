@@ -6,10 +6,11 @@ use Rattle.std.specs.Option.{option_map}
 use Rattle.std.specs.declared.io.buffered.BufReader.{BufReader}
 use Rattle.clock_policy.specs.declared.key.Key.{Key}
 use Rattle.guest_strings.specs.declared.reference.Reference.{Reference}
-use Rattle.trace_files.specs.References.{Flaw, NoIds, BadLine, IsText, BadRecord, IsCompressed, Trace, Ends, Breaks, told, flaw_at_end, due_from, is_of_addresses, joined, lines, pieces_of, trace_of}
+use Rattle.trace_files.specs.References.{Flaw, NoIds, BadLine, BadId, BadOp, IsText, BadRecord, IsCompressed, Trace, Ends, Breaks, told, flaw_at_end, due_from, is_of_addresses, joined, lines, pieces_of, trace_of}
 use Rattle.trace_files.specs.declared.fault.TraceFault.{TraceFault}
-use Rattle.trace_files.specs.declared.fault.TraceFault.TheVariants.{NoMemory, CannotRead, Empty, NoColumn, Line, Text, Record, Compressed}
+use Rattle.trace_files.specs.declared.fault.TraceFault.TheVariants.{NoMemory, CannotRead, Empty, NoColumn, Line, Id, Op, Text, Record, Compressed}
 use Rattle.trace_lines.specs.declared.format.TraceFormat.{TraceFormat}
+use Rattle.trace_lines.specs.declared.trace_line.LineReferences.{LineReferences}
 use Rattle.trace_files.specs.declared.pieces.Pieces.{Pieces}
 use Rattle.trace_files.specs.declared.trace_file.TraceFile.{TraceFile}
 
@@ -27,8 +28,10 @@ abbrev pub IsOutside : TraceFault → Type 0
 IsOutside NoMemory = ⊤
 IsOutside (CannotRead name) = ⊤
 IsOutside (Empty name) = ⊥
-IsOutside (NoColumn name) = ⊥
+IsOutside (NoColumn name column) = ⊥
 IsOutside (Line number text) = ⊥
+IsOutside (Id number text) = ⊥
+IsOutside (Op number text) = ⊥
 IsOutside (Text name) = ⊥
 IsOutside (Record number size) = ⊥
 IsOutside (Compressed name compression) = ⊥
@@ -38,8 +41,10 @@ abbrev pub Names : List ℕ → TraceFault → Type 0
 Names name NoMemory = ⊤
 Names name (CannotRead named) = named.now ≡ name
 Names name (Empty named) = named.now ≡ name
-Names name (NoColumn named) = named.now ≡ name
+Names name (NoColumn named column) = named.now ≡ name
 Names name (Line number text) = ⊤
+Names name (Id number text) = ⊤
+Names name (Op number text) = ⊤
 Names name (Text named) = named.now ≡ name
 Names name (Record number size) = ⊤
 Names name (Compressed named compression) = named.now ≡ name
@@ -56,8 +61,10 @@ abbrev pub Blames : TraceFault → (Flaw → Type 0) → Type 0
 Blames NoMemory P = ⊤
 Blames (CannotRead name) P = ⊤
 Blames (Empty name) P = ⊥
-Blames (NoColumn name) P = P NoIds
+Blames (NoColumn name column) P = P NoIds
 Blames (Line number text) P = P (BadLine number)
+Blames (Id number text) P = P (BadId number)
+Blames (Op number text) P = P (BadOp number)
 Blames (Text name) P = P IsText
 Blames (Record number size) P = P (BadRecord number size)
 Blames (Compressed name compression) P = P (IsCompressed compression)
@@ -90,17 +97,17 @@ abbrev pub lines_left : {B : Type 0} → (B → Option (List ℕ)) → TraceForm
 lines_left remaining format pieces = option_map (λ bytes. lines format pieces.count pieces.words (pieces_of format bytes)) (remaining pieces.file)
 
 -- with a reference in front that is due
-abbrev pub due_left : {B : Type 0} → (B → Option (List ℕ)) → TraceFormat → Option Reference → Pieces B → Option Trace
+abbrev pub due_left : {B : Type 0} → (B → Option (List ℕ)) → TraceFormat → Option LineReferences → Pieces B → Option Trace
 due_left remaining format due pieces = option_map (due_from format due pieces.count pieces.words) (remaining pieces.file)
 
 -- with one that is held
-abbrev pub joined_left : {B : Type 0} → (B → Option (List ℕ)) → TraceFormat → Option Reference → Option Reference → Pieces B → Option Trace
+abbrev pub joined_left : {B : Type 0} → (B → Option (List ℕ)) → TraceFormat → Option Reference → Option LineReferences → Pieces B → Option Trace
 joined_left remaining format held due pieces = option_map (λ bytes. joined held (due_from format due pieces.count pieces.words bytes)) (remaining pieces.file)
 
 -- what a trace still tells
 abbrev pub to_come : {B : Type 0} → (B → Option (List ℕ)) → TraceFile B → Option Trace
-to_come remaining trace = if is_of_addresses trace.format then joined_left remaining trace.format trace.held trace.second trace.pieces
-    else due_left remaining trace.format trace.second trace.pieces
+to_come remaining trace = if is_of_addresses trace.format then joined_left remaining trace.format trace.held trace.due trace.pieces
+    else due_left remaining trace.format trace.due trace.pieces
 
 -- the name that a trace was opened by
 abbrev pub name_of : {B : Type 0} → TraceFile B → Bor (List ℕ)
@@ -142,8 +149,10 @@ abbrev pub StopsBy : TraceFault → Trace → Type 0
 StopsBy NoMemory trace = ⊤
 StopsBy (CannotRead name) trace = ⊤
 StopsBy (Empty name) trace = (told trace ≡ []) × (flaw_at_end trace ≡ None)
-StopsBy (NoColumn name) trace = EndsBy (NoColumn name) trace
+StopsBy (NoColumn name column) trace = EndsBy (NoColumn name column) trace
 StopsBy (Line number text) trace = EndsBy (Line number text) trace
+StopsBy (Id number text) trace = EndsBy (Id number text) trace
+StopsBy (Op number text) trace = EndsBy (Op number text) trace
 StopsBy (Text name) trace = EndsBy (Text name) trace
 StopsBy (Record number size) trace = EndsBy (Record number size) trace
 StopsBy (Compressed name compression) trace = EndsBy (Compressed name compression) trace

@@ -4,11 +4,16 @@ use Rattle.text_lines.specs.Text.{ahead, lines_of}
 use Rattle.std.specs.Option.{option_map}
 use Rattle.guest_strings.specs.References.{both, is_same_page}
 use Rattle.guest_strings.specs.declared.reference.Reference.{Reference}
-use Rattle.trace_lines.specs.Lines.{said, shows_text, format_behind, word_of}
+use Rattle.trace_lines.specs.Lines.{said, shows_text, format_behind, row_flaw_at, word_of}
+use Rattle.trace_lines.specs.PageIds.{next_page}
+use Rattle.trace_lines.specs.PageLines.{referred}
 use Rattle.trace_lines.specs.PlainLines.{compression_at}
 use Rattle.trace_lines.specs.declared.compression.Compression.{Compression}
+use Rattle.trace_lines.specs.declared.format.Table.{Table}
 use Rattle.trace_lines.specs.declared.format.TraceFormat.{TraceFormat}
 use Rattle.trace_lines.specs.declared.format.TraceFormat.TheVariants.{Text, Csv, Columns, OracleGeneral, Lackey, DynamoRio}
+use Rattle.trace_lines.specs.declared.rows.RowFlaw.{RowFlaw}
+use Rattle.trace_lines.specs.declared.rows.RowFlaw.TheVariants.{Id, Op, Other}
 use Rattle.trace_lines.specs.declared.trace_line.LineReferences.{LineReferences}
 use Rattle.trace_lines.specs.declared.trace_line.TraceLine.{TraceLine}
 use Rattle.trace_lines.specs.declared.trace_line.TraceLine.TheVariants.{Refers, Word, LeftOut, Names}
@@ -20,6 +25,8 @@ use Rattle.trace_files.specs.WordNumbers.{resolved, words_behind}
 pub data Flaw : Type 0 where
   NoIds : Flaw
   BadLine : ℕ → Flaw
+  BadId : ℕ → Flaw
+  BadOp : ℕ → Flaw
   IsText : Flaw
   BadRecord : ℕ → ℕ → Flaw
   IsCompressed : Compression → Flaw
@@ -65,8 +72,8 @@ records_of bytes = records_from 23 bytes
 -- lines, which end with a line feed, or records
 abbrev pub pieces_of : TraceFormat → List ℕ → List (List ℕ)
 pieces_of Text bytes = lines_of bytes
-pieces_of Csv bytes = lines_of bytes
-pieces_of (Columns column) bytes = lines_of bytes
+pieces_of (Csv table) bytes = lines_of bytes
+pieces_of (Columns table) bytes = lines_of bytes
 pieces_of OracleGeneral bytes = records_of bytes
 pieces_of Lackey bytes = lines_of bytes
 pieces_of DynamoRio bytes = lines_of bytes
@@ -76,10 +83,18 @@ pieces_of DynamoRio bytes = lines_of bytes
 unfoldable pub record_flaw : ℕ → List ℕ → Flaw
 record_flaw number bytes = if shows_text number bytes then IsText else BadRecord number (length bytes)
 
+abbrev pub flaw_at : ℕ → RowFlaw → Flaw
+flaw_at number Id = BadId number
+flaw_at number Op = BadOp number
+flaw_at number Other = BadLine number
+
+unfoldable pub table_flaw : Table → ℕ → List ℕ → Flaw
+table_flaw table number piece = flaw_at number (row_flaw_at table number piece)
+
 abbrev pub piece_flaw : TraceFormat → ℕ → List ℕ → Flaw
 piece_flaw Text number piece = BadLine number
-piece_flaw Csv number piece = NoIds
-piece_flaw (Columns column) number piece = BadLine number
+piece_flaw (Csv table) number piece = NoIds
+piece_flaw (Columns table) number piece = table_flaw table number piece
 piece_flaw OracleGeneral number piece = record_flaw number piece
 piece_flaw Lackey number piece = BadLine number
 piece_flaw DynamoRio number piece = BadLine number
@@ -93,12 +108,26 @@ flaw_of format number piece = compressed_or (piece_flaw format number piece) (co
 
 -- ---- lines or records one after another
 
+-- the reference to the next page
+abbrev pub following : Reference → Reference
+following reference = referred reference.is_written (next_page reference.page)
+
+-- a reference, and those to so many next pages
+unfoldable pub run_given : Reference → ℕ → Trace → Trace
+run_given reference zero rest = Gives reference rest
+run_given reference (suc more) rest = Gives reference (run_given (following reference) more rest)
+
+-- what is left of these after the first one
+abbrev pub left_of : Reference → ℕ → Option LineReferences
+left_of reference zero = None
+left_of reference (suc more) = Some (record { first = following reference; more = more })
+
 abbrev pub referring : LineReferences → Trace → Trace
-referring line rest = Gives line.first (before line.second rest)
+referring line rest = run_given line.first line.more rest
 
 abbrev pub line_given : TraceLine → Trace → Trace
 line_given (Refers line) rest = referring line rest
-line_given Word rest = rest
+line_given (Word is_written) rest = rest
 line_given LeftOut rest = rest
 line_given (Names column) rest = rest
 
@@ -135,18 +164,23 @@ joined (Some reference) (Gives next rest) = if is_same_page reference.page next.
 -- whether a trace tells of addresses, and of pages otherwise
 abbrev pub is_of_addresses : TraceFormat → Bool
 is_of_addresses Text = false
-is_of_addresses Csv = false
-is_of_addresses (Columns column) = false
+is_of_addresses (Csv table) = false
+is_of_addresses (Columns table) = false
 is_of_addresses OracleGeneral = false
 is_of_addresses Lackey = true
 is_of_addresses DynamoRio = true
 
--- bytes behind the first so many lines or records, in which these words came, with a reference that is due
-abbrev pub due_from : TraceFormat → Option Reference → ℕ → List (List ℕ) → List ℕ → Trace
-due_from format due count words bytes = before due (lines format count words (pieces_of format bytes))
+-- references that are due in front, if there are any
+abbrev pub due_before : Option LineReferences → Trace → Trace
+due_before None rest = rest
+due_before (Some line) rest = referring line rest
+
+-- bytes behind the first so many lines or records, in which these words came, with references that are due
+abbrev pub due_from : TraceFormat → Option LineReferences → ℕ → List (List ℕ) → List ℕ → Trace
+due_from format due count words bytes = due_before due (lines format count words (pieces_of format bytes))
 
 -- and of a trace of addresses with one that is held
-abbrev pub trace_from : TraceFormat → Option Reference → Option Reference → ℕ → List (List ℕ) → List ℕ → Trace
+abbrev pub trace_from : TraceFormat → Option Reference → Option LineReferences → ℕ → List (List ℕ) → List ℕ → Trace
 trace_from format held due count words bytes = if is_of_addresses format then joined held (due_from format due count words bytes) else due_from format due count words bytes
 
 -- what the bytes of a whole file tell

@@ -20,13 +20,13 @@ with_word word words = if list_any (is_same_word word) words then words else wor
 -- what a line says with this word, if it has one: then it refers to the page of the word's number
 abbrev pub resolved : List (List ℕ) → List ℕ → TraceLine → TraceLine
 resolved words word (Refers line) = Refers line
-resolved words word Word = word_numbered (number_of word words)
+resolved words word (Word is_written) = word_numbered (number_of word words) is_written
 resolved words word LeftOut = LeftOut
 resolved words word (Names column) = Names column
 
 -- the words behind a line
 abbrev pub words_behind : List (List ℕ) → List ℕ → TraceLine → List (List ℕ)
 words_behind words word (Refers line) = words
-words_behind words word Word = with_word word words
+words_behind words word (Word is_written) = with_word word words
 words_behind words word LeftOut = words
 words_behind words word (Names column) = words

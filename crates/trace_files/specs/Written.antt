@@ -1,5 +1,5 @@
 -- What is written of a string of references, to be read by libCacheSim or by `policies`.
-use Rattle.std.specs.Prelude.{ℕ, ◌+◌, ◌-◌, ◌^◌, cond, nat_lt, min, List, [], ◌∷◌, ◌++◌, codes, Some}
+use Rattle.std.specs.Prelude.{ℕ, ◌+◌, ◌-◌, ◌^◌, cond, nat_lt, min, List, [], ◌∷◌, ◌++◌, codes, Some, None}
 use Rattle.std.specs.Fmt.{decimal}
 use Rattle.byteorder.specs.Endian.{little_bytes}
 use Rattle.clock_policy.specs.declared.key.Key.{Key}
@@ -7,16 +7,21 @@ use Rattle.clock_policy.specs.Text.{key_text}
 use Rattle.guest_strings.specs.declared.reference.Reference.{Reference}
 use Rattle.page_policies.specs.Optimal.{next_use}
 use Rattle.trace_lines.specs.PageIds.{id_of}
-use Rattle.trace_lines.specs.declared.format.IdColumn.{IdColumn}
+use Rattle.trace_lines.specs.declared.format.Column.TheVariants.{At, Usual}
 use Rattle.trace_lines.specs.declared.format.IdKind.TheVariants.{Unknown}
+use Rattle.trace_lines.specs.declared.format.Table.{Table}
 
 -- the line of names of a table
 abbrev pub header : List ℕ
 header = codes "time,id,size"
 
--- the column of ids of a table that is written
-abbrev pub written_column : IdColumn
-written_column = record { place = 1; separator = Some 44; ids = Unknown }
+-- a table of which only the ids are read, in the column that has a usual name
+abbrev pub usual_table : Table
+usual_table = record { id = Usual; volume = None; size = None; op = None; page_size = None; writes = None; separator = None; ids = Unknown }
+
+-- a table that is written, by the places of its columns
+abbrev pub written_table : Table
+written_table = record { id = At 1; volume = None; size = None; op = None; page_size = None; writes = None; separator = Some 44; ids = Unknown }
 
 -- time, id and size, which is 1
 abbrev pub csv_row : ℕ → Key → List ℕ

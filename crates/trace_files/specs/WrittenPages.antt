@@ -1,11 +1,12 @@
 -- Lines of pages as `policies trace` writes them.
-use Rattle.std.specs.Prelude.{◌≡◌, ℕ, List, [], ◌∷◌, ◌++◌, Option}
+use Rattle.std.specs.Prelude.{◌≡◌, ℕ, false, List, [], ◌∷◌, ◌++◌, Option}
 use Rattle.std.specs.Io.KnownBytes.{Consumes}
 use Rattle.clock_policy.specs.declared.key.Key.{Key}
 use Rattle.clock_policy.specs.Text.{key_text}
 use Rattle.trace_lines.specs.PageLines.{IsPage}
 use Rattle.trace_files.specs.References.{Trace}
-use Rattle.trace_files.specs.ReferenceAnswers.{TellsPages}
+use Rattle.guest_strings.specs.declared.reference.Reference.{Reference}
+use Rattle.trace_files.specs.ReferenceAnswers.{TellsReferences}
 
 abbrev pub EachIsPage : List Key → Type 0
 EachIsPage [] = Unit {0}
@@ -16,14 +17,19 @@ abbrev pub page_lines : List Key → List ℕ
 page_lines [] = []
 page_lines (page ∷ pages) = key_text page ++ 10 ∷ page_lines pages
 
+-- a reference to each page, none of which writes
+abbrev pub read_only : List Key → List Reference
+read_only [] = []
+read_only (page ∷ pages) = record { page = page; is_written = false } ∷ read_only pages
+
 -- lines at the front of a text, and its rest after them: the lines have the pages that came to a block
-abbrev pub AddsPages : List ℕ → List ℕ → List Key → List Key → Type 0
-AddsPages text rest old new = (pages : List Key) × ((new ≡ old ++ pages) × ((text ≡ page_lines pages ++ rest) × EachIsPage pages))
+abbrev pub AddsPages : List ℕ → List ℕ → List Reference → List Reference → Type 0
+AddsPages text rest old new = (pages : List Key) × ((new ≡ old ++ read_only pages) × ((text ≡ page_lines pages ++ rest) × EachIsPage pages))
 
 -- such lines were taken from the bytes that a reader holds
-abbrev pub TakesPages : Option (List ℕ) → Option (List ℕ) → List Key → List Key → Type 0
-TakesPages known left old new = (pages : List Key) × ((new ≡ old ++ pages) × (Consumes known left (page_lines pages) × EachIsPage pages))
+abbrev pub TakesPages : Option (List ℕ) → Option (List ℕ) → List Reference → List Reference → Type 0
+TakesPages known left old new = (pages : List Key) × ((new ≡ old ++ read_only pages) × (Consumes known left (page_lines pages) × EachIsPage pages))
 
 -- whatever was told with the pages that a block had, with those that it has now so much is told
-abbrev pub TellsOn : Option Trace → Option Trace → List Key → List Key → Type 0
-TellsOn now later old new = (first : Option Trace) → TellsPages old first now → TellsPages new first later
+abbrev pub TellsOn : Option Trace → Option Trace → List Reference → List Reference → Type 0
+TellsOn now later old new = (first : Option Trace) → TellsReferences old first now → TellsReferences new first later

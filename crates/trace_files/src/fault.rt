@@ -2,7 +2,7 @@
 
 use std::alloc::AllocError;
 use thiserror::Error;
-use trace_lines::Compression;
+use trace_lines::{Column, Compression};
 
 /// Why a trace is not read to its end. Lines and records are counted from 1.
 #[derive(Debug, Drop, Error)]
@@ -13,11 +13,16 @@ pub enum TraceFault<'a> {
     CannotRead(&'a str),
     #[error("{0}: no references")]
     Empty(&'a str),
-    #[error("{0}: its first line names no column `id`, `obj_id`, `object_id`, `key` or `page`")]
-    NoColumn(&'a str),
+    /// The column that the first line does not name.
+    #[error("{0}: its first line names no column {1}")]
+    NoColumn(&'a str, Column<'a>),
     /// A line, and what stands there.
     #[error("line {0}: bad line: {1}")]
     Line(u64, String),
+    #[error("line {0}: bad id: {1}: ids are all numbers, or words and no numbers; if line 1 has names, use them, as --columns id=NAME; --ids words reads any text as a word")]
+    Id(u64, String),
+    #[error("line {0}: bad op: {1}: w and write are writes, r and read are reads; --writes lists other words that mean a write; if line 1 has names, use them, as --columns op=NAME")]
+    Op(u64, String),
     /// A text where records were asked for.
     #[error("{0}: it is a text, and no records of 24 bytes; --format text or csv reads one")]
     Text(&'a str),

@@ -6,11 +6,12 @@ ghost use Rattle.text_lines.specs.Text.{lines_of};
 ghost use Rattle.clock_policy.specs.declared.key.Key.{Key};
 ghost use Rattle.guest_strings.specs.declared.reference.Reference.{Reference};
 ghost use Rattle.trace_lines.specs.PageIds.{page_of_id};
-ghost use Rattle.trace_lines.specs.Columns.{column_of_ids, column_page};
-ghost use Rattle.trace_lines.specs.Lines.{column_said, to_page, with_ids};
+ghost use Rattle.trace_lines.specs.Columns.{table_named};
+ghost use Rattle.trace_lines.specs.Lines.{to_page, with_ids};
+ghost use Rattle.trace_lines.specs.Rows.{row_said};
 ghost use Rattle.trace_lines.specs.declared.format.IdKind.TheVariants.{Numbers};
 ghost use Rattle.trace_files.specs.Written.{csv_row, header, record_bytes, reference_line};
-ghost use Rattle.trace_files.specs.Written.{written_column};
+ghost use Rattle.trace_files.specs.Written.{usual_table, written_table};
 ghost use Rattle.trace_lines.specs.PageLines.{AreReferences, IsPage, line_reference};
 ghost use Rattle.trace_lines.specs.PageLines.{record_page};
 
@@ -24,15 +25,13 @@ pub fn written_lines_are_read()
 
 /// The line of names of a table names the column of ids, and a row that is written of a page is read as that page, be it the first or a
 /// later one.
-#[tactic(auto, using(crate::proofs::CsvBackLaws::header_read, crate::proofs::CsvBackLaws::row_read, crate::proofs::CsvBackLaws::row_said, crate::proofs::CsvBackLaws::later_row_said))]
+#[tactic(auto, using(crate::proofs::CsvBackLaws::header_read, crate::proofs::CsvBackLaws::first_row_said, crate::proofs::CsvBackLaws::later_row_said))]
 pub fn written_rows_are_read()
-    ensures names { column_of_ids header ≡ Some written_column }
-    ensures rows { (time : ℕ) (page : Key) → time < 2 ^ 64 → IsPage page
-        → column_page written_column (csv_row time page) ≡ Some page }
+    ensures names { table_named usual_table header ≡ Some written_table }
     ensures first { (time : ℕ) (page : Key) → time < 2 ^ 64 → IsPage page
-        → column_said written_column (csv_row time page) ≡ Some (to_page page) }
+        → row_said written_table (csv_row time page) ≡ Some (to_page page) }
     ensures later { (time : ℕ) (page : Key) → time < 2 ^ 64 → IsPage page
-        → column_said (with_ids Numbers written_column) (csv_row time page)
+        → row_said (with_ids Numbers written_table) (csv_row time page)
         ≡ Some (to_page page) }
 {}
 

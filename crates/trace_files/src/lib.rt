@@ -19,6 +19,6 @@ pub use laws::{
     written_rows_are_read,
 };
 pub use trace_file::{BLOCK, TraceFile, open_trace};
-pub use trace_lines::{Compression, IdColumn, IdKind, TraceFormat};
+pub use trace_lines::{Column, Compression, IdKind, Table, TraceFormat, marks_writes};
 pub use whole_trace::{read_references, read_sample, read_whole};
 pub use writing::{CSV_HEADER, write_csv, write_line, write_records};

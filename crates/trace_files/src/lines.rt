@@ -4,6 +4,7 @@ ghost use Rattle.std.specs.Prelude.{◌≡◌, IfErr, OnOk};
 ghost use Rattle.trace_files.specs.References.{
   BadLine,
   Breaks,
+  NoIds,
   counted,
   flaw_of,
   is_of_addresses,
@@ -11,6 +12,7 @@ ghost use Rattle.trace_files.specs.References.{
   piece_flaw,
   record_flaw,
   referring,
+  table_flaw,
 };
 ghost use Rattle.trace_files.specs.ReferenceAnswers.{BreaksBy, Names, Tells, lines_left};
 
@@ -20,7 +22,8 @@ use crate::word_list::resolve;
 use std::alloc::{AllocError, Global};
 use std::io::BufRead;
 use trace_lines::{
-    LineReferences, TraceFormat, TraceLine, compression_at, format_behind, said, shows_text,
+    LineReferences, RowFlaw, Table, TraceFormat, TraceLine, column_lacking, compression_at,
+    format_behind, row_flaw_at, said, shows_text,
 };
 
 /// How many characters of a bad line are told.
@@ -30,7 +33,7 @@ impl<'a, B: BufRead + Drop> Pieces<'a, B> {
     /// What the next line that refers to pages refers to; others come before it.
     pub(crate) fn next_references(
         &mut self,
-        format: &mut TraceFormat,
+        format: &mut TraceFormat<'a>,
     ) -> Result<Option<LineReferences>, TraceFault<'a>>
         ensures told { Tells referring result (lines_left B.remaining format.old self.old)
             (lines_left B.remaining format.new self.new) }
@@ -42,7 +45,7 @@ impl<'a, B: BufRead + Drop> Pieces<'a, B> {
             match self.next_line(format)? {
                 None => return Ok(None),
                 Some(TraceLine::Refers(references)) => return Ok(Some(references)),
-                Some(TraceLine::Word | TraceLine::LeftOut | TraceLine::Names(_)) => {}
+                Some(TraceLine::Word(_) | TraceLine::LeftOut | TraceLine::Names(_)) => {}
             }
         }
         // nothing says that a reader ends: std gives up after as many turns
@@ -50,7 +53,10 @@ impl<'a, B: BufRead + Drop> Pieces<'a, B> {
     }
 
     /// What the next line or record says.
-    fn next_line(&mut self, format: &mut TraceFormat) -> Result<Option<TraceLine>, TraceFault<'a>>
+    fn next_line(
+        &mut self,
+        format: &mut TraceFormat<'a>,
+    ) -> Result<Option<TraceLine<'a>>, TraceFault<'a>>
         ensures told { Tells line_given result (lines_left B.remaining format.old self.old)
             (lines_left B.remaining format.new self.new) }
         ensures form { is_of_addresses format.new ≡ is_of_addresses format.old }
@@ -75,8 +81,8 @@ impl<'a, B: BufRead + Drop> Pieces<'a, B> {
 
     /// What is told of a line or record that says nothing.
     #[tactic(auto, unfolding(crate::specs::References::flaw_of))]
-    fn bad_piece(&self, format: TraceFormat) -> TraceFault<'a>
-        ensures breaks { BreaksBy result (Breaks (flaw_of format self.now.count
+    fn bad_piece(&self, format: TraceFormat<'a>) -> TraceFault<'a>
+        ensures breaks { BreaksBy result (Breaks (flaw_of format.entry self.now.count
             self.now.last.items)) }
         ensures named { Names self.now.name.now result }
     {
@@ -87,14 +93,15 @@ impl<'a, B: BufRead + Drop> Pieces<'a, B> {
     }
 
     /// The same of a file that is not compressed.
-    fn bad_plain(&self, format: TraceFormat) -> TraceFault<'a>
-        ensures breaks { BreaksBy result (Breaks (piece_flaw format self.now.count
+    fn bad_plain(&self, format: TraceFormat<'a>) -> TraceFault<'a>
+        ensures breaks { BreaksBy result (Breaks (piece_flaw format.entry self.now.count
             self.now.last.items)) }
         ensures named { Names self.now.name.now result }
     {
         match format {
             TraceFormat::OracleGeneral => self.bad_record(),
-            TraceFormat::Csv => TraceFault::NoColumn(self.name),
+            TraceFormat::Csv(table) => self.no_column(table),
+            TraceFormat::Columns(table) => self.bad_row(table),
             _ => self.bad_line(),
         }
     }
@@ -110,6 +117,35 @@ impl<'a, B: BufRead + Drop> Pieces<'a, B> {
             return TraceFault::Text(self.name);
         }
         TraceFault::Record(self.count, self.last.len())
+    }
+
+    /// The first column that a line of names lacks.
+    fn no_column(&self, table: Table<'a>) -> TraceFault<'a>
+        ensures breaks { BreaksBy result (Breaks NoIds) }
+        ensures named { Names self.now.name.now result }
+    {
+        let column = match column_lacking(table, self.last.as_slice()) {
+            Some(column) => column,
+            None => table.id,
+        };
+        TraceFault::NoColumn(self.name, column)
+    }
+
+    /// What is wrong with a row of a table, its number, and its first characters.
+    #[tactic(auto, unfolding(crate::specs::References::table_flaw))]
+    fn bad_row(&self, table: Table<'a>) -> TraceFault<'a>
+        ensures breaks { BreaksBy result (Breaks (table_flaw table.entry self.now.count
+            self.now.last.items)) }
+        ensures named { Names self.now.name.now result }
+    {
+        let Ok(text) = shown(self.alloc, self.last.as_slice()) else {
+            return TraceFault::NoMemory;
+        };
+        match row_flaw_at(table, self.count, self.last.as_slice()) {
+            RowFlaw::Id => TraceFault::Id(self.count, text),
+            RowFlaw::Op => TraceFault::Op(self.count, text),
+            RowFlaw::Other => TraceFault::Line(self.count, text),
+        }
     }
 
     /// Its number, and its first characters.

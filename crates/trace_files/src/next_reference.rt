@@ -1,21 +1,28 @@
 //! The next reference of a trace.
 
 ghost use Rattle.std.specs.Prelude.{◌≡◌, IfErr};
-ghost use Rattle.trace_files.specs.References.{Gives, Trace, before, is_of_addresses, joined};
+ghost use Rattle.trace_files.specs.References.{
+  Gives,
+  Trace,
+  before,
+  is_of_addresses,
+  joined,
+  left_of,
+};
 ghost use Rattle.trace_files.specs.ReferenceAnswers.{Names, Tells, due_left, joined_left};
 
 use crate::fault::TraceFault;
 use crate::pieces::Pieces;
 use guest_strings::Reference;
 use std::io::BufRead;
-use trace_lines::TraceFormat;
+use trace_lines::{LineReferences, TraceFormat, next_page};
 
 /// The next reference, in which neighbours to one page are one: the last one is held, since the next may be to the same page.
 pub(crate) fn next_joined<'a, B: BufRead + Drop>(
     pieces: &mut Pieces<'a, B>,
-    format: &mut TraceFormat,
+    format: &mut TraceFormat<'a>,
     held: &mut Option<Reference>,
-    due: &mut Option<Reference>,
+    due: &mut Option<LineReferences>,
 ) -> Result<Option<Reference>, TraceFault<'a>>
     ensures told { Tells Gives result (joined_left B.remaining format.old held.old due.old
         pieces.old) (joined_left B.remaining format.new held.new due.new pieces.new) }
@@ -58,11 +65,11 @@ fn hold(held: &mut Option<Reference>, next: Reference) -> Option<Reference>
     Some(reference)
 }
 
-/// The reference that is due, or else the first one of the next line, after which its second may be due.
+/// The first reference that is due, or else the first one of the next line, after which the others of that line are due.
 pub(crate) fn next_due<'a, B: BufRead + Drop>(
     pieces: &mut Pieces<'a, B>,
-    format: &mut TraceFormat,
-    due: &mut Option<Reference>,
+    format: &mut TraceFormat<'a>,
+    due: &mut Option<LineReferences>,
 ) -> Result<Option<Reference>, TraceFault<'a>>
     ensures told { Tells Gives result (due_left B.remaining format.old due.old pieces.old)
         (due_left B.remaining format.new due.new pieces.new) }
@@ -70,12 +77,31 @@ pub(crate) fn next_due<'a, B: BufRead + Drop>(
     ensures named { IfErr result (Names pieces.old.name.now) }
     ensures kept { pieces.new.name ≡ pieces.old.name }
 {
-    if let Some(second) = due.take() {
-        return Ok(Some(second));
+    if let Some(line) = due.take() {
+        *due = left_of(line);
+        return Ok(Some(line.first));
     }
-    let Some(references) = pieces.next_references(format)? else {
+    let Some(line) = pieces.next_references(format)? else {
         return Ok(None);
     };
-    *due = references.second;
-    Ok(Some(references.first))
+    *due = left_of(line);
+    Ok(Some(line.first))
+}
+
+/// The references of a line after its first one.
+#[inline(always)]
+#[tactic(auto, using(crate::proofs::DueTold::none_left, crate::proofs::DueTold::some_left))]
+fn left_of(line: LineReferences) -> Option<LineReferences>
+    ensures { result ≡ left_of line.first line.more }
+{
+    if line.more == 0 {
+        return None;
+    }
+    Some(LineReferences {
+        first: Reference {
+            page: next_page(line.first.page),
+            is_written: line.first.is_written,
+        },
+        more: line.more - 1,
+    })
 }

@@ -22,7 +22,7 @@ ghost use Rattle.trace_files.specs.WrittenPages.{TakesPages};
 use crate::fault::TraceFault;
 use crate::reading::{read_line, read_record, take_pages};
 use crate::word_list::WordList;
-use clock_policy::Key;
+use guest_strings::Reference;
 use std::alloc::Global;
 use std::io;
 use std::io::{BufRead, ErrorKind};
@@ -60,8 +60,8 @@ impl<'a, B: BufRead + Drop> Pieces<'a, B> {
     }
 
     /// Reads the next line or record, if there is one.
-    pub(crate) fn read(&mut self, format: TraceFormat) -> Result<bool, TraceFault<'a>>
-        ensures taken { IfOk result (λ is_there. TakesPiece (pieces_of format) is_there
+    pub(crate) fn read(&mut self, format: TraceFormat<'a>) -> Result<bool, TraceFault<'a>>
+        ensures taken { IfOk result (λ is_there. TakesPiece (pieces_of format.entry) is_there
             self.new.last.items (B.remaining self.old.file) (B.remaining self.new.file)) }
         ensures counted { OnOk result (self.new.count ≡ counted self.old.count) }
         ensures fault { IfErr result IsOutside }
@@ -75,11 +75,11 @@ impl<'a, B: BufRead + Drop> Pieces<'a, B> {
         }
     }
 
-    /// Adds the pages of the lines at hand to a block, which then has so many at most, up to the first that is not as `write_line` writes
+    /// Adds references to the pages of the lines at hand to a block, which then has so many at most, up to the first that is not as `write_line` writes
     /// a page.
     pub(crate) fn take_pages(
         &mut self,
-        block: &mut Vec<Key>,
+        block: &mut Vec<Reference>,
         most: usize,
     ) -> Result<(), TraceFault<'a>>
         requires { length block.old.items ≤ most }

@@ -9,7 +9,7 @@ ghost use Rattle.trace_files.specs.ReferenceAnswers.{TakesPiece};
 ghost use Rattle.trace_files.specs.WrittenPages.{TakesPages};
 
 use crate::written_pages::add_pages;
-use clock_policy::Key;
+use guest_strings::Reference;
 use std::io;
 use std::io::{BufRead, ErrorKind};
 
@@ -94,11 +94,11 @@ fn read_some<B: BufRead>(file: &mut B, part: &mut [u8]) -> io::Result<usize>
     Err(io::Error::from(ErrorKind::Interrupted))
 }
 
-/// Adds the pages of the next lines to a block, which then has so many at most: of whole lines that the reader has at hand, up to the first
+/// Adds references to the pages of the next lines to a block, which then has so many at most: of whole lines that the reader has at hand, up to the first
 /// that is not as `write_line` writes a page.
 pub(crate) fn take_pages<B: BufRead>(
     file: &mut B,
-    block: &mut Vec<Key>,
+    block: &mut Vec<Reference>,
     most: usize,
 ) -> io::Result<()>
     requires { length block.old.items ≤ most }

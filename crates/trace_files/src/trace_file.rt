@@ -26,7 +26,7 @@ ghost use Rattle.trace_files.specs.ReferenceAnswers.{
   Names,
   Opens,
   Tells,
-  TellsPages,
+  TellsReferences,
   name_of,
   to_come,
 };
@@ -35,13 +35,12 @@ ghost use Rattle.trace_files.specs.WrittenPages.{TellsOn};
 use crate::fault::TraceFault;
 use crate::next_reference::{next_due, next_joined};
 use crate::pieces::Pieces;
-use clock_policy::Key;
 use guest_strings::Reference;
 use std::alloc::Global;
 use std::io::{BufRead, BufReader, Read};
 use std::rt::Files;
 use std::{fs, io};
-use trace_lines::TraceFormat;
+use trace_lines::{LineReferences, TraceFormat};
 
 /// How many bytes of a trace are read at a time.
 const BYTES: usize = 1 << 16;
@@ -53,17 +52,17 @@ pub const BLOCK: usize = 1 << 14;
 /// A trace, reference by reference.
 #[derive(Drop)]
 pub struct TraceFile<'a, B: BufRead> {
-    format: TraceFormat,
+    format: TraceFormat<'a>,
     pub(crate) pieces: Pieces<'a, B>,
-    /// the page of an access's last byte, where it is another than that of its first
-    second: Option<Reference>,
+    /// the references of the last line that are still due
+    due: Option<LineReferences>,
     /// the last reference of a trace of addresses: the next one may be to the same page
     held: Option<Reference>,
 }
 
 impl<'a, B: BufRead + Drop> TraceFile<'a, B> {
-    fn new(alloc: Global, name: &'a str, format: TraceFormat, file: B) -> Self
-        ensures told { to_come B.remaining result ≡ option_map (trace_of format)
+    fn new(alloc: Global, name: &'a str, format: TraceFormat<'a>, file: B) -> Self
+        ensures told { to_come B.remaining result ≡ option_map (trace_of format.entry)
             (B.remaining file) }
         ensures file { result.pieces.file ≡ file }
         ensures named { (name_of result).now ≡ name.now }
@@ -71,16 +70,16 @@ impl<'a, B: BufRead + Drop> TraceFile<'a, B> {
         TraceFile {
             format,
             pieces: Pieces::new(alloc, name, file),
-            second: None,
+            due: None,
             held: None,
         }
     }
 
-    /// Fills a block with the next pages, so many at most. At the end of the trace it is empty.
-    #[tactic(auto, using(crate::proofs::ManyTold::no_pages, crate::proofs::AtHandTold::ends_at_hand, crate::proofs::AtHandTold::ends_behind, crate::proofs::AtHandTold::over_behind, crate::proofs::AtHandTold::one_behind))]
-    pub fn fill(&mut self, block: &mut Vec<Key>, most: usize) -> Result<(), TraceFault<'a>>
+    /// Fills a block with the next references, so many at most. At the end of the trace it is empty.
+    #[tactic(auto, using(crate::proofs::ManyTold::no_references, crate::proofs::AtHandTold::ends_at_hand, crate::proofs::AtHandTold::ends_behind, crate::proofs::AtHandTold::over_behind, crate::proofs::AtHandTold::one_behind))]
+    pub fn fill(&mut self, block: &mut Vec<Reference>, most: usize) -> Result<(), TraceFault<'a>>
         ensures few { length block.new.items ≤ most }
-        ensures told { OnOk result (TellsPages block.new.items (to_come B.remaining self.old)
+        ensures told { OnOk result (TellsReferences block.new.items (to_come B.remaining self.old)
             (to_come B.remaining self.new)) }
         ensures full { OnOk result (length block.new.items < most → IfSome (to_come B.remaining
             self.old) (λ _. to_come B.remaining self.new ≡ Some Ends)) }
@@ -98,17 +97,21 @@ impl<'a, B: BufRead + Drop> TraceFile<'a, B> {
             let Some(reference) = self.next()? else {
                 return Ok(());
             };
-            if block.push(reference.page).is_err() {
+            if block.push(reference).is_err() {
                 return Err(TraceFault::NoMemory);
             }
         }
         Ok(())
     }
 
-    /// Adds the pages of the lines at hand to a block, which then has so many at most, up to the first that is not as `write_line` writes a
+    /// Adds the references of the lines at hand to a block, which then has so many at most, up to the first that is not as `write_line` writes a
     /// page. A first line is never among them.
     #[tactic(auto, using(crate::proofs::AtHandTold::same_told, crate::proofs::AtHandTold::outside_ends))]
-    fn fill_at_hand(&mut self, block: &mut Vec<Key>, most: usize) -> Result<(), TraceFault<'a>>
+    fn fill_at_hand(
+        &mut self,
+        block: &mut Vec<Reference>,
+        most: usize,
+    ) -> Result<(), TraceFault<'a>>
         requires { length block.old.items ≤ most }
         ensures few { length block.new.items ≤ most }
         ensures more { OnOk result (length block.old.items ≤ length block.new.items) }
@@ -122,7 +125,7 @@ impl<'a, B: BufRead + Drop> TraceFile<'a, B> {
         if self.pieces.count == 0 {
             return Ok(());
         }
-        if self.second.is_some() {
+        if self.due.is_some() {
             return Ok(());
         }
         match self.format {
@@ -131,7 +134,7 @@ impl<'a, B: BufRead + Drop> TraceFile<'a, B> {
         }
     }
 
-    /// The next reference, or `None` at the end. Those of tables and records never say that they write.
+    /// The next reference, or `None` at the end. Those of records, and of tables without a column for it, never say that they write.
     pub fn next(&mut self) -> Result<Option<Reference>, TraceFault<'a>>
         ensures told { Tells Gives result (to_come B.remaining self.old)
             (to_come B.remaining self.new) }
@@ -143,10 +146,10 @@ impl<'a, B: BufRead + Drop> TraceFile<'a, B> {
                 &mut self.pieces,
                 &mut self.format,
                 &mut self.held,
-                &mut self.second,
+                &mut self.due,
             );
         }
-        next_due(&mut self.pieces, &mut self.format, &mut self.second)
+        next_due(&mut self.pieces, &mut self.format, &mut self.due)
     }
 }
 
@@ -154,9 +157,9 @@ impl<'a, B: BufRead + Drop> TraceFile<'a, B> {
 pub fn open_trace<'a, R: Files + AllocGlobal>(
     rt: &R,
     name: &'a str,
-    format: TraceFormat,
+    format: TraceFormat<'a>,
 ) -> Result<TraceFile<'a, BufReader<R::File>>, TraceFault<'a>>
-    ensures told { IfOk result (IsAtFront R.File.remaining format) }
+    ensures told { IfOk result (IsAtFront R.File.remaining format.entry) }
     ensures named { IfOk result (λ trace. (name_of trace).now ≡ name.now) }
     ensures fault { IfErr result (λ fault. (fault ≡ TraceFault.NoMemory) ⊎ IsUnread name.now
         fault) }
@@ -174,10 +177,10 @@ fn path_of(name: &str) -> &str {
 fn trace_over<'a, F: Read + Drop>(
     alloc: Global,
     name: &'a str,
-    format: TraceFormat,
+    format: TraceFormat<'a>,
     opened: io::Result<F>,
 ) -> Result<TraceFile<'a, BufReader<F>>, TraceFault<'a>>
-    ensures told { IfOk result (IsAtFront F.remaining format) }
+    ensures told { IfOk result (IsAtFront F.remaining format.entry) }
     ensures named { IfOk result (λ trace. (name_of trace).now ≡ name.now) }
     ensures answered { Opens name.now opened result }
 {
@@ -191,12 +194,12 @@ fn trace_over<'a, F: Read + Drop>(
 }
 
 /// Whether a trace tells of addresses, and of pages otherwise.
-fn is_of_addresses(format: TraceFormat) -> bool
-    ensures { result ≡ is_of_addresses format }
+fn is_of_addresses(format: TraceFormat<'_>) -> bool
+    ensures { result ≡ is_of_addresses format.entry }
 {
     match format {
         TraceFormat::Text
-        | TraceFormat::Csv
+        | TraceFormat::Csv(_)
         | TraceFormat::Columns(_)
         | TraceFormat::OracleGeneral => false,
         TraceFormat::Lackey | TraceFormat::DynamoRio => true,

@@ -9,6 +9,7 @@ ghost use Rattle.std.specs.Prelude.{
   true,
   length,
   filter,
+  map,
   IfErr,
   IfOk,
   IfSome,
@@ -23,6 +24,7 @@ ghost use Rattle.trace_files.specs.ReferenceAnswers.{
   Names,
   StopsBy,
   name_of,
+  page_of,
   to_come,
 };
 
@@ -37,7 +39,7 @@ use std::num::NonZeroU32;
 use whole_strings::is_sampled;
 
 /// All pages of a trace. One with none is a fault.
-#[tactic(auto, using(crate::proofs::ManyTold::no_pages, crate::proofs::ManyTold::pages_joined, crate::proofs::ManyTold::all_pages, crate::proofs::ManyTold::empty_pages, crate::proofs::ManyTold::pages_stop))]
+#[tactic(auto, using(crate::proofs::ManyTold::no_pages, crate::proofs::ManyTold::pages_on, crate::proofs::ManyTold::all_of_pages, crate::proofs::ManyTold::none_of_pages, crate::proofs::ManyTold::pages_stop))]
 pub fn read_whole<'a, B: BufRead + Drop, P: StageListener>(
     alloc: Global,
     trace: &mut TraceFile<'a, B>,
@@ -60,7 +62,7 @@ pub fn read_whole<'a, B: BufRead + Drop, P: StageListener>(
             }
             return Ok(string);
         }
-        if string.extend_from_slice(block.as_slice()).is_err() {
+        if add_pages_of(&mut string, block.as_slice()).is_err() {
             return Err(TraceFault::NoMemory);
         }
         progress.tell(Stage::References(string.len() as u64));
@@ -69,8 +71,19 @@ pub fn read_whole<'a, B: BufRead + Drop, P: StageListener>(
     Err(TraceFault::CannotRead(trace.pieces.name))
 }
 
+/// Adds the pages of references.
+fn add_pages_of(string: &mut Vec<Key>, references: &[Reference]) -> Result<(), AllocError>
+    ensures { OnOk result (string.new.items ≡ string.old.items ++ map page_of references.now) }
+{
+    string.reserve(references.len())?;
+    'references: for reference in references {
+        string.push(reference.page)?;
+    }
+    Ok(())
+}
+
 /// All references of a trace. One with none is a fault.
-#[tactic(auto, using(crate::proofs::ManyTold::no_references, crate::proofs::ManyTold::references_on, crate::proofs::ManyTold::all_references, crate::proofs::ManyTold::empty_references, crate::proofs::ManyTold::references_stop))]
+#[tactic(auto, using(crate::proofs::ManyTold::no_references, crate::proofs::ManyTold::references_joined, crate::proofs::ManyTold::all_blocks, crate::proofs::ManyTold::empty_references, crate::proofs::ManyTold::references_stop))]
 pub fn read_references<'a, B: BufRead + Drop, P: StageListener>(
     alloc: Global,
     trace: &mut TraceFile<'a, B>,
@@ -84,14 +97,16 @@ pub fn read_references<'a, B: BufRead + Drop, P: StageListener>(
     ensures named { IfErr result (Names (name_of trace.old).now) }
 {
     let mut string = Vec::new(alloc);
-    'references: for _ in 0..u64::MAX {
-        let Some(reference) = trace.next()? else {
+    let mut block = Vec::new(alloc);
+    'fills: for _ in 0..u64::MAX {
+        trace.fill(&mut block, BLOCK)?;
+        if block.is_empty() {
             if string.is_empty() {
                 return Err(TraceFault::Empty(trace.pieces.name));
             }
             return Ok(string);
-        };
-        if string.push(reference).is_err() {
+        }
+        if string.extend_from_slice(block.as_slice()).is_err() {
             return Err(TraceFault::NoMemory);
         }
         progress.tell(Stage::References(string.len() as u64));

@@ -62,29 +62,37 @@ impl WordList {
 }
 
 /// What the line of this number says where its word is known, if it has one: the word is there from then on.
-pub(crate) fn resolve(
+#[inline(always)]
+pub(crate) fn resolve<'a>(
     words: &mut WordList,
-    line: TraceLine,
-    format: TraceFormat,
+    line: TraceLine<'a>,
+    format: TraceFormat<'a>,
     number: u64,
     piece: &[u8],
-) -> Result<TraceLine, AllocError>
-    ensures line { IfOk result (λ told. told ≡ resolved words.old (word_of format number
-        piece.now) line) }
-    ensures words { OnOk result (words.new ≡ words_behind words.old (word_of format number
-        piece.now) line) }
+) -> Result<TraceLine<'a>, AllocError>
+    ensures line { IfOk result (λ told. told ≡ resolved words.old (word_of format.entry number
+        piece.now) line.entry) }
+    ensures words { OnOk result (words.new ≡ words_behind words.old (word_of format.entry number
+        piece.now) line.entry) }
 {
     match line {
-        TraceLine::Word => number_word(words, word_of(format, number, piece)),
+        TraceLine::Word(is_written) => {
+            number_word(words, word_of(format, number, piece), is_written)
+        }
         _ => Ok(line),
     }
 }
 
 /// What a line says that has this word.
-fn number_word(words: &mut WordList, word: &[u8]) -> Result<TraceLine, AllocError>
-    ensures line { IfOk result (λ told. told ≡ word_numbered (number_of word.now words.old)) }
+fn number_word<'a>(
+    words: &mut WordList,
+    word: &[u8],
+    is_written: bool,
+) -> Result<TraceLine<'a>, AllocError>
+    ensures line { IfOk result (λ told. told ≡ word_numbered (number_of word.now words.old)
+        is_written) }
     ensures words { OnOk result (words.new ≡ with_word word.now words.old) }
 {
     let number = words.number(word)?;
-    Ok(word_numbered(number))
+    Ok(word_numbered(number, is_written))
 }

@@ -7,6 +7,7 @@ ghost use Rattle.trace_lines.specs.PageLines.{IsPage};
 ghost use Rattle.trace_files.specs.WrittenPages.{AddsPages};
 
 use clock_policy::Key;
+use guest_strings::Reference;
 use std::alloc::AllocError;
 
 /// A number from here on may pass 32 bits with another digit.
@@ -87,11 +88,11 @@ fn page_ahead(text: &[u8]) -> Option<(Key, &[u8])>
     Some((Key { process, vpn }, rest))
 }
 
-/// Adds the pages of the first lines to a block, which then has so many at most. Answers what stands after those lines.
+/// Adds references to the pages of the first lines to a block, which then has so many at most. Answers what stands after those lines.
 #[tactic(auto, using(crate::proofs::WrittenPagesLaws::none_added, crate::proofs::WrittenPagesLaws::one_added))]
 pub(crate) fn add_pages<'t>(
     text: &'t [u8],
-    block: &mut Vec<Key>,
+    block: &mut Vec<Reference>,
     most: usize,
 ) -> Result<&'t [u8], AllocError>
     requires { length block.old.items ≤ most }
@@ -104,7 +105,10 @@ pub(crate) fn add_pages<'t>(
         let Some((page, others)) = page_ahead(rest) else {
             return Ok(rest);
         };
-        block.push(page)?;
+        block.push(Reference {
+            page,
+            is_written: false,
+        })?;
         rest = others;
     }
     Ok(rest)

@@ -5,16 +5,21 @@ use Rattle.std.specs.List.{starts_with, ends_with, list_any}
 use Rattle.std.specs.Str.{bytes_eq}
 use Rattle.text_lines.specs.Text.{words_of}
 use Rattle.trace_lines.specs.Ids.{id_to}
+use Rattle.trace_lines.specs.PageIds.{more_pages}
 use Rattle.trace_lines.specs.declared.address_lines.AddressLine.{AddressLine}
 use Rattle.trace_lines.specs.declared.address_lines.AddressLine.TheVariants.{Access as Accessed, Other}
 
 -- ---- an access
 
--- An access to so many bytes at an address is to the page of its first byte and that of its last, of 4096 bytes each. There is none of
--- no bytes, and none whose last byte lies past 2^64.
+abbrev pub access_from : ℕ → Bool → Option ℕ → Option AddressLine
+access_from first is_written None = None
+access_from first is_written (Some more) = Some (Accessed (record { first = first; more = more; is_written = is_written }))
+
+-- An access to so many bytes at an address is to the pages from that of its first byte to that of its last, of 4096 bytes each. There is
+-- none of no bytes, and none whose last byte lies past 2^64.
 unfoldable pub access_to : ℕ → ℕ → Bool → Option AddressLine
 access_to address size is_written = if nat_lt 0 size && nat_lt (address + (size - 1)) (2 ^ 64)
-    then Some (Accessed (record { first = address / 4096; last = (address + (size - 1)) / 4096; is_written = is_written })) else None
+    then access_from (address / 4096) is_written (more_pages (address / 4096) ((address + (size - 1)) / 4096)) else None
 
 -- where address, size and kind are written
 abbrev pub access_at : Option ℕ → Option ℕ → Option Bool → Option AddressLine

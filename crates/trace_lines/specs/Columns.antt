@@ -1,15 +1,14 @@
 -- Lines of columns.
 use Rattle.std.specs.Prelude.{ℕ, suc, ◌-◌, ◌==◌, ◌&&◌, ◌||◌, Bool, false, not, nat_eq, nat_lt, List, [], ◌∷◌, length, take, drop, codes, slice_get, slice_range, Option, Some, None, unwrap_or, if◌then◌else◌}
 use Rattle.std.specs.Option.{option_map, option_and_then}
-use Rattle.std.specs.List.{position_from, prefix_len, suffix_len, starts_with, ends_with}
+use Rattle.std.specs.List.{list_any, position_from, prefix_len, suffix_len, starts_with, ends_with}
 use Rattle.std.specs.Char.{is_ascii_whitespace}
 use Rattle.std.specs.Str.{str_eq_ignore_ascii_case}
 use Rattle.text_lines.specs.Text.{ahead}
-use Rattle.clock_policy.specs.declared.key.Key.{Key}
 use Rattle.trace_lines.specs.Ids.{id_in}
-use Rattle.trace_lines.specs.PageIds.{page_of_id}
-use Rattle.trace_lines.specs.declared.format.IdColumn.{IdColumn}
-use Rattle.trace_lines.specs.declared.format.IdKind.TheVariants.{Unknown}
+use Rattle.trace_lines.specs.declared.format.Column.{Column}
+use Rattle.trace_lines.specs.declared.format.Column.TheVariants.{At, Named, Usual}
+use Rattle.trace_lines.specs.declared.format.Table.{Table}
 
 -- ---- the fields of a line
 
@@ -73,29 +72,59 @@ is_named name text = str_eq_ignore_ascii_case text name
 unfoldable pub is_id_name : List ℕ → Bool
 is_id_name text = is_named (codes "id") text || is_named (codes "obj_id") text || is_named (codes "object_id") text || is_named (codes "key") text || is_named (codes "page") text
 
--- the first column that is called so
-unfoldable pub place_of_ids : ℕ → List ℕ → Option ℕ
-place_of_ids separator names = position_from (λ name. is_id_name (field_text name)) 0 (fields_of separator names)
+-- a list of words, separated by commas, has a text, in capital or small letters
+unfoldable pub is_listed : List ℕ → List ℕ → Bool
+is_listed list text = list_any (λ word. is_named word text) (fields_of 44 list)
 
-abbrev pub column_at : ℕ → ℕ → IdColumn
-column_at separator place = record { place = place; separator = Some separator; ids = Unknown }
+-- whether a name in the first line is that of a column
+abbrev pub is_column : Column → List ℕ → Bool
+is_column (At place) text = false
+is_column (Named name) text = is_named name.now text
+is_column Usual text = is_id_name text
 
--- the column of ids of a table, of which the first line names the columns: the separator of that line is that of all
-unfoldable pub column_of_ids : List ℕ → Option IdColumn
-column_of_ids names = option_map (column_at (separator_of names)) (place_of_ids (separator_of names) names)
+-- the place of the first column that has the name
+unfoldable pub place_named : ℕ → List ℕ → Column → Option ℕ
+place_named separator names column = position_from (λ name. is_column column (field_text name)) 0 (fields_of separator names)
 
--- what stands in the column
-unfoldable pub column_text : IdColumn → List ℕ → Option (List ℕ)
-column_text column line = option_map field_text (slice_get (fields_of (unwrap_or column.separator (separator_of line)) line) column.place)
+-- a column by its place: one that has a place keeps it
+abbrev pub placed : ℕ → List ℕ → Column → Option Column
+placed separator names (At place) = Some (At place)
+placed separator names (Named name) = option_map At (place_named separator names (Named name))
+placed separator names Usual = option_map At (place_named separator names Usual)
 
--- the page of the id that stands there as a number
-unfoldable pub column_page : IdColumn → List ℕ → Option Key
-column_page column line = option_and_then (λ text. option_map page_of_id (id_in text)) (column_text column line)
+-- the same of one that may be there
+abbrev pub placed_where : ℕ → List ℕ → Option Column → Option (Option Column)
+placed_where separator names None = Some None
+placed_where separator names (Some column) = option_map (λ it. Some it) (placed separator names column)
 
--- a word has a character
-abbrev pub is_word : List ℕ → Bool
-is_word text = nat_lt 0 (length text)
+-- a table whose columns have these places, where each has one
+abbrev pub table_at : Table → ℕ → Option Column → Option (Option Column) → Option (Option Column) → Option (Option Column) → Option Table
+table_at table separator None volume size op = None
+table_at table separator (Some id) None size op = None
+table_at table separator (Some id) (Some volume) None op = None
+table_at table separator (Some id) (Some volume) (Some size) None = None
+table_at table separator (Some id) (Some volume) (Some size) (Some op) = Some (record {
+  id = id;
+  volume = volume;
+  size = size;
+  op = op;
+  page_size = table.page_size;
+  writes = table.writes;
+  separator = Some separator;
+  ids = table.ids;
+})
 
--- the first one is not what a column of ids may be called
-abbrev pub is_first_word : List ℕ → Bool
-is_first_word text = is_word text && not (is_id_name text)
+-- the table with all its columns by their places, by the line that names them: the separator of that line is that of all
+abbrev pub table_named : Table → List ℕ → Option Table
+table_named table names = table_at table (separator_of names) (placed (separator_of names) names table.id) (placed_where (separator_of names) names table.volume)
+    (placed_where (separator_of names) names table.size) (placed_where (separator_of names) names table.op)
+
+-- what stands in a column of a line, where the column's place is known
+abbrev pub text_in : Option ℕ → Column → List ℕ → Option (List ℕ)
+text_in separator (At place) line = option_map field_text (slice_get (fields_of (unwrap_or separator (separator_of line)) line) place)
+text_in separator (Named name) line = None
+text_in separator Usual line = None
+
+-- the number that stands there
+abbrev pub number_in : Option ℕ → Column → List ℕ → Option ℕ
+number_in separator column line = option_and_then id_in (text_in separator column line)

@@ -4,4 +4,5 @@ pub mod PlainLines
 pub mod Columns
 pub mod PageLines
 pub mod AddressLines
+pub mod Rows
 pub mod Lines

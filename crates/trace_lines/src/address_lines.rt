@@ -25,6 +25,7 @@ ghost use Rattle.trace_lines.specs.AddressLines.{
 };
 
 use crate::number_text::id_to;
+use crate::runs::more_pages;
 use text_lines::next_word;
 
 /// How many bytes a page has.
@@ -38,11 +39,11 @@ pub(crate) enum AddressLine {
     Other,
 }
 
-/// The pages of the first and the last byte of an access.
+/// The page of an access's first byte, and how many come after it up to that of its last.
 #[derive(Clone, Copy, Debug, PartialEq, Eq)]
 pub(crate) struct Access {
     pub(crate) first: u64,
-    pub(crate) last: u64,
+    pub(crate) more: u32,
     pub(crate) is_written: bool,
 }
 
@@ -52,9 +53,11 @@ fn access_to(address: u64, size: u64, is_written: bool) -> Option<AddressLine>
     ensures { result ≡ access_to address size is_written }
 {
     let last = address.checked_add(size.checked_sub(1)?)?;
+    let first = address / PAGE;
+    let more = more_pages(first, last / PAGE)?;
     Some(AddressLine::Access(Access {
-        first: address / PAGE,
-        last: last / PAGE,
+        first,
+        more,
         is_written,
     }))
 }

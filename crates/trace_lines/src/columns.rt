@@ -1,28 +1,30 @@
 //! Lines of columns.
 
-ghost use Rattle.std.specs.Prelude.{◌≡◌, ◌∷◌, ◌<◌, ◌≤◌, IfSome, false, length, option_copied, slice_get, unwrap_or};
+ghost use Rattle.std.specs.Prelude.{◌≡◌, ◌∷◌, ◌<◌, ◌≤◌, IfSome, false, length, option_copied, option_map, slice_get, unwrap_or};
 ghost use Rattle.trace_lines.specs.Columns.{
-  column_of_ids,
-  column_page,
-  column_text,
   field_size,
+  field_text,
   fields_behind,
   fields_of,
-  is_first_word,
+  is_column,
   is_id_name,
+  is_listed,
   is_named,
   is_separator,
-  is_word,
-  place_of_ids,
+  number_in,
+  place_named,
+  placed,
+  placed_where,
   quoted_after,
   separator_of,
+  table_named,
+  text_in,
   trimmed,
   unquoted,
 };
 
-use crate::format::{IdColumn, IdKind};
-use crate::page_lines::page_of_number;
-use clock_policy::Key;
+use crate::format::{Column, Table};
+use crate::number_text::id_in;
 
 /// What stands between two quotes separates nothing.
 const QUOTE: u8 = b'"';
@@ -132,7 +134,7 @@ fn unquoted(text: &[u8]) -> &[u8]
 
 /// What a column of ids may be called.
 #[tactic(auto, unfolding(crate::specs::Columns::is_id_name))]
-fn is_id_name(text: &[u8]) -> bool
+pub(crate) fn is_id_name(text: &[u8]) -> bool
     ensures { result ≡ is_id_name text.now }
 {
     is_named(text, b"id")
@@ -143,22 +145,51 @@ fn is_id_name(text: &[u8]) -> bool
 }
 
 /// Whether a text is a name, in capital or small letters.
-fn is_named(text: &[u8], name: &[u8]) -> bool
+pub(crate) fn is_named(text: &[u8], name: &[u8]) -> bool
     ensures { result ≡ is_named name.now text.now }
 {
     text.eq_ignore_ascii_case(name)
 }
 
-/// The first column whose name is one of ids.
-#[tactic(auto, unfolding(crate::specs::Columns::place_of_ids))]
-fn place_of_ids(names: &[u8], separator: u8) -> Option<usize>
-    ensures { result ≡ place_of_ids separator names.now }
+/// Whether a list of words, separated by commas, has a text, in capital or small letters.
+#[tactic(auto, unfolding(crate::specs::Columns::is_listed))]
+pub(crate) fn is_listed(list: &[u8], text: &[u8]) -> bool
+    ensures { result ≡ is_listed list.now text.now }
+{
+    let mut rest = list;
+    'words: loop {
+        let (word, behind) = next_field(rest, b',');
+        if is_named(text, word) {
+            return true;
+        }
+        let Some(others) = behind else {
+            return false;
+        };
+        rest = others;
+    }
+}
+
+/// Whether a name in the first line is that of a column.
+fn is_column(column: Column<'_>, text: &[u8]) -> bool
+    ensures { result ≡ is_column column.entry text.now }
+{
+    match column {
+        Column::At(_) => false,
+        Column::Named(name) => is_named(text, name.as_bytes()),
+        Column::Usual => is_id_name(text),
+    }
+}
+
+/// The place of the first column that has the name.
+#[tactic(auto, unfolding(crate::specs::Columns::place_named))]
+fn place_named(names: &[u8], separator: u8, column: Column<'_>) -> Option<usize>
+    ensures { result ≡ place_named separator names.now column.entry }
 {
     let mut place = 0;
     let mut rest = names;
     'columns: loop {
         let (name, behind) = next_field(rest, separator);
-        if is_id_name(unquoted(trimmed(name))) {
+        if is_column(column, unquoted(trimmed(name))) {
             return Some(place);
         }
         rest = behind?;
@@ -166,58 +197,107 @@ fn place_of_ids(names: &[u8], separator: u8) -> Option<usize>
     }
 }
 
-/// The column of ids of a table, by the line that names its columns.
-#[tactic(auto, unfolding(crate::specs::Columns::column_of_ids))]
-pub(crate) fn column_of_ids(names: &[u8]) -> Option<IdColumn>
-    ensures { result ≡ column_of_ids names.now }
+/// A column by its place.
+fn placed<'a>(names: &[u8], separator: u8, column: Column<'a>) -> Option<Column<'a>>
+    ensures { result ≡ placed separator names.now column.entry }
+{
+    match column {
+        Column::At(_) => Some(column),
+        Column::Named(_) | Column::Usual => {
+            let place = place_named(names, separator, column)?;
+            Some(Column::At(place))
+        }
+    }
+}
+
+/// The same of one that may be there.
+fn placed_where<'a>(
+    names: &[u8],
+    separator: u8,
+    column: Option<Column<'a>>,
+) -> Option<Option<Column<'a>>>
+    ensures { result ≡ placed_where separator names.now column.entry }
+{
+    match column {
+        None => Some(None),
+        Some(column) => {
+            let column = placed(names, separator, column)?;
+            Some(Some(column))
+        }
+    }
+}
+
+/// A table with all its columns by their places, by the line that names its columns.
+pub(crate) fn table_named<'a>(table: Table<'a>, names: &[u8]) -> Option<Table<'a>>
+    ensures { result ≡ table_named table.entry names.now }
 {
     let separator = separator_of(names);
-    let place = place_of_ids(names, separator)?;
-    Some(IdColumn {
-        place,
+    let id = placed(names, separator, table.id)?;
+    let volume = placed_where(names, separator, table.volume)?;
+    let size = placed_where(names, separator, table.size)?;
+    let op = placed_where(names, separator, table.op)?;
+    Some(Table {
+        id,
+        volume,
+        size,
+        op,
+        page_size: table.page_size,
+        writes: table.writes,
         separator: Some(separator),
-        ids: IdKind::Unknown,
+        ids: table.ids,
     })
 }
 
-/// What stands in the column; what else stands in the line is not looked at.
-#[tactic(auto, unfolding(crate::specs::Columns::column_text))]
-pub(crate) fn column_text(column: IdColumn, line: &[u8]) -> Option<&[u8]>
-    ensures { option_copied result ≡ column_text column line.now }
+/// The first column that the line of names lacks, if it lacks one.
+pub fn column_lacking<'a>(table: Table<'a>, names: &[u8]) -> Option<Column<'a>> {
+    let separator = separator_of(names);
+    for column in [Some(table.id), table.volume, table.size, table.op] {
+        if let Some(column) = column {
+            if placed(names, separator, column).is_none() {
+                return Some(column);
+            }
+        }
+    }
+    None
+}
+
+/// What stands in a column of a line; what else stands in the line is not looked at.
+pub(crate) fn text_in<'t>(
+    separator: Option<u8>,
+    column: Column<'_>,
+    line: &'t [u8],
+) -> Option<&'t [u8]>
+    ensures { option_copied result ≡ text_in separator column.entry line.now }
 {
-    let separator = column_separator(column, line);
-    let field = field(line, separator, column.place)?;
+    match column {
+        Column::At(place) => field_text(separator, place, line),
+        Column::Named(_) | Column::Usual => None,
+    }
+}
+
+/// What stands at a place of a line.
+fn field_text(separator: Option<u8>, place: usize, line: &[u8]) -> Option<&[u8]>
+    ensures { option_copied result ≡ option_map field_text (slice_get (fields_of (unwrap_or
+        separator (separator_of line.now)) line.now) place) }
+{
+    let separator = column_separator(separator, line);
+    let field = field(line, separator, place)?;
     Some(unquoted(trimmed(field)))
 }
 
-/// The page of the id that stands in the column as a number.
-#[tactic(auto, unfolding(crate::specs::Columns::column_page))]
-pub(crate) fn column_page(column: IdColumn, line: &[u8]) -> Option<Key>
-    ensures { result ≡ column_page column line.now }
+/// The number that stands in a column of a line.
+pub(crate) fn number_in(separator: Option<u8>, column: Column<'_>, line: &[u8]) -> Option<u64>
+    ensures { result ≡ number_in separator column.entry line.now }
 {
-    let text = column_text(column, line)?;
-    page_of_number(text)
-}
-
-/// Whether a text is a word: it has a character.
-pub(crate) fn is_word(text: &[u8]) -> bool
-    ensures { result ≡ is_word text.now }
-{
-    !text.is_empty()
-}
-
-/// Whether it is one that a column may begin with: what a column of ids may be called is taken for a line of names.
-pub(crate) fn is_first_word(text: &[u8]) -> bool
-    ensures { result ≡ is_first_word text.now }
-{
-    is_word(text) && !is_id_name(text)
+    let text = text_in(separator, column, line)?;
+    id_in(text)
 }
 
 /// What separates the columns of a line.
-fn column_separator(column: IdColumn, line: &[u8]) -> u8
-    ensures { result ≡ unwrap_or column.separator (separator_of line.now) }
+fn column_separator(separator: Option<u8>, line: &[u8]) -> u8
+    ensures { result ≡ unwrap_or separator (separator_of line.now) }
 {
-    match column.separator {
+    match separator {
         Some(separator) => separator,
         None => separator_of(line),
     }

@@ -24,6 +24,7 @@ impl fmt::Display for Compression {
 }
 
 /// What a line or record of this number shows that its file was compressed by: the first one begins with what names the format.
+#[inline(always)]
 #[tactic(auto, unfolding(crate::specs::PlainLines::compression_at))]
 pub fn compression_at(number: u64, piece: &[u8]) -> Option<Compression>
     ensures { result ≡ compression_at number piece.now }

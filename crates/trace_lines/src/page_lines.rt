@@ -13,6 +13,7 @@ use guest_strings::Reference;
 use text_lines::{next_word, number};
 
 /// A page that stands for an object: each id has its own.
+#[inline(always)]
 #[tactic(auto, unfolding(crate::specs::PageIds::page_of_id))]
 pub(crate) fn page_of_id(id: u64) -> Key
     ensures { result ≡ page_of_id id }
@@ -24,6 +25,7 @@ pub(crate) fn page_of_id(id: u64) -> Key
 }
 
 /// The page that an id stands for.
+#[inline(always)]
 pub(crate) fn page_of_number(number: &[u8]) -> Option<Key>
     ensures { result ≡ option_map page_of_id (id_in number.now) }
 {
@@ -32,6 +34,7 @@ pub(crate) fn page_of_number(number: &[u8]) -> Option<Key>
 }
 
 /// The page of a record of 24 bytes.
+#[inline(always)]
 #[tactic(auto, unfolding(crate::specs::PageLines::record_page))]
 pub(crate) fn page_of_record(bytes: &[u8]) -> Option<Key>
     ensures { result ≡ record_page bytes.now }
@@ -44,6 +47,7 @@ pub(crate) fn page_of_record(bytes: &[u8]) -> Option<Key>
 
 /// What a line refers to: its page, `P/V`, the numbers of a process and of a page, or an id alone; and where the page was written a `w`
 /// behind it.
+#[inline(always)]
 pub(crate) fn reference_of_line(line: &[u8]) -> Option<Reference>
     ensures { result ≡ line_reference line.now }
 {
@@ -62,6 +66,7 @@ pub(crate) fn reference_of_line(line: &[u8]) -> Option<Reference>
 }
 
 /// The page that a word names.
+#[inline(always)]
 #[tactic(auto, unfolding(crate::specs::PageLines::page_in))]
 fn page_in(word: &[u8]) -> Option<Key>
     ensures { result ≡ page_in word.now }

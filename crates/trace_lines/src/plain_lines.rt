@@ -7,6 +7,7 @@ ghost use Rattle.std.specs.Io.BufRead.{strip_last};
 ghost use Rattle.trace_lines.specs.PlainLines.{is_left_out, plain_line, tells_nothing, without_mark};
 
 /// A line by its number, without the carriage return at its end; the first one also without a byte order mark in front.
+#[inline(always)]
 #[tactic(auto, unfolding(crate::specs::PlainLines::plain_line))]
 pub(crate) fn plain_line(number: u64, line: &[u8]) -> &[u8]
     ensures { result.now ≡ plain_line number line.now }
@@ -39,6 +40,7 @@ fn without_return(line: &[u8]) -> &[u8]
 }
 
 /// Whether a line is blank, or a remark, which begins with `#`.
+#[inline(always)]
 #[tactic(auto, unfolding(crate::specs::PlainLines::is_left_out))]
 pub(crate) fn is_left_out(line: &[u8]) -> bool
     ensures { result ≡ is_left_out line.now }

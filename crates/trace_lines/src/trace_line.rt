@@ -5,61 +5,61 @@ ghost use Rattle.std.specs.List.{list_all};
 ghost use Rattle.std.specs.Option.{option_map};
 ghost use Rattle.trace_lines.specs.Lines.{
   address_said,
-  column_behind,
-  column_said,
   csv_behind,
-  first_of,
   form_said,
   format_behind,
+  ids_behind,
   is_text_byte,
   line_said,
-  page_or,
   piece_said,
   record_said,
+  row_flaw_at,
   said,
-  second_of,
   shows_text,
+  table_behind,
   to_page,
   to_reference,
   word_numbered,
   word_of,
-  word_said,
 };
-ghost use Rattle.trace_lines.specs.Columns.{column_page, column_text, is_first_word, is_word};
+ghost use Rattle.trace_lines.specs.Columns.{table_named, text_in};
 ghost use Rattle.trace_lines.specs.declared.trace_line.TraceLine.TheVariants.{Names};
 
-use crate::address_lines::{Access, AddressLine, dynamorio_line, lackey_line};
-use crate::columns::{column_of_ids, column_page, column_text, is_first_word, is_word};
+use crate::address_lines::{AddressLine, dynamorio_line, lackey_line};
+use crate::columns::{table_named, text_in};
 use crate::compression::compression_at;
-use crate::format::{IdColumn, IdKind, TraceFormat};
+use crate::format::{IdKind, Table, TraceFormat};
 use crate::page_lines::{page_of_id, page_of_record, reference_of_line};
 use crate::plain_lines::{is_left_out, plain_line};
+use crate::rows::{RowFlaw, row_flaw, row_said};
 use clock_policy::Key;
 use guest_strings::Reference;
 
-/// The reference of a line, or its two: an access may end in another page than it begins in.
+/// The references of a line: an access may end in another page than it begins in, and a block may have many.
 #[derive(Clone, Copy, Debug, PartialEq, Eq)]
 pub struct LineReferences {
     pub first: Reference,
-    pub second: Option<Reference>,
+    /// How many pages come after the first one, by their ids.
+    pub more: u32,
 }
 
 /// What a line or record says.
 #[derive(Clone, Copy, Debug, PartialEq, Eq)]
-pub enum TraceLine {
+pub enum TraceLine<'a> {
     Refers(LineReferences),
-    /// The id of a table's line is a word, which `word_of` finds.
-    Word,
-    /// Nothing: it is blank, a remark, or what a tool says of itself.
+    /// The id of a table's line is a word, which `word_of` finds; and whether the line writes.
+    Word(bool),
+    /// Nothing: it is blank, a remark, what a tool says of itself, or a request of no bytes.
     LeftOut,
-    /// The names of a table's columns, of which this one has the ids.
-    Names(IdColumn),
+    /// The names of a table's columns, all of which have their places now.
+    Names(Table<'a>),
 }
 
 /// What the line or record of this number says, if anything.
+#[inline(always)]
 #[tactic(auto, unfolding(crate::specs::Lines::said))]
-pub fn said(format: TraceFormat, number: u64, piece: &[u8]) -> Option<TraceLine>
-    ensures { result ≡ said format number piece.now }
+pub fn said<'a>(format: TraceFormat<'a>, number: u64, piece: &[u8]) -> Option<TraceLine<'a>>
+    ensures { result ≡ said format.entry number piece.now }
 {
     if compression_at(number, piece).is_some() {
         return None;
@@ -67,8 +67,9 @@ pub fn said(format: TraceFormat, number: u64, piece: &[u8]) -> Option<TraceLine>
     piece_said(format, number, piece)
 }
 
-fn piece_said(format: TraceFormat, number: u64, piece: &[u8]) -> Option<TraceLine>
-    ensures { result ≡ piece_said format number piece.now }
+#[inline(always)]
+fn piece_said<'a>(format: TraceFormat<'a>, number: u64, piece: &[u8]) -> Option<TraceLine<'a>>
+    ensures { result ≡ piece_said format.entry number piece.now }
 {
     match format {
         TraceFormat::OracleGeneral => record_said(number, piece),
@@ -76,8 +77,9 @@ fn piece_said(format: TraceFormat, number: u64, piece: &[u8]) -> Option<TraceLin
     }
 }
 
+#[inline(always)]
 #[tactic(auto, unfolding(crate::specs::Lines::record_said))]
-fn record_said(number: u64, bytes: &[u8]) -> Option<TraceLine>
+fn record_said<'a>(number: u64, bytes: &[u8]) -> Option<TraceLine<'a>>
     ensures { result ≡ record_said number bytes.now }
 {
     if shows_text(number, bytes) {
@@ -95,6 +97,7 @@ pub fn shows_text(number: u64, bytes: &[u8]) -> bool
     number == 1 && is_text(bytes)
 }
 
+#[inline(always)]
 fn is_text(bytes: &[u8]) -> bool
     ensures { result ≡ list_all is_text_byte bytes.now }
 {
@@ -109,9 +112,10 @@ fn is_text_byte(byte: u8) -> bool
     (byte >= 32 && byte < 127) || (byte >= 9 && byte < 14)
 }
 
+#[inline(always)]
 #[tactic(auto, unfolding(crate::specs::Lines::line_said))]
-fn line_said(format: TraceFormat, line: &[u8]) -> Option<TraceLine>
-    ensures { result ≡ line_said format line.now }
+fn line_said<'a>(format: TraceFormat<'a>, line: &[u8]) -> Option<TraceLine<'a>>
+    ensures { result ≡ line_said format.entry line.now }
 {
     if is_left_out(line) {
         return Some(TraceLine::LeftOut);
@@ -120,93 +124,60 @@ fn line_said(format: TraceFormat, line: &[u8]) -> Option<TraceLine>
 }
 
 /// What a line says that is not left out.
-fn form_said(format: TraceFormat, line: &[u8]) -> Option<TraceLine>
-    ensures { result ≡ form_said format line.now }
+#[inline(always)]
+fn form_said<'a>(format: TraceFormat<'a>, line: &[u8]) -> Option<TraceLine<'a>>
+    ensures { result ≡ form_said format.entry line.now }
 {
     match format {
         TraceFormat::Text | TraceFormat::OracleGeneral => to_reference(reference_of_line(line)),
-        TraceFormat::Csv => names(column_of_ids(line)),
-        TraceFormat::Columns(column) => column_said(column, line),
+        TraceFormat::Csv(table) => names(table_named(table, line)),
+        TraceFormat::Columns(table) => row_said(table, line),
         TraceFormat::Lackey => address_said(lackey_line(line)),
         TraceFormat::DynamoRio => address_said(dynamorio_line(line)),
     }
 }
 
-/// What the line of a table says: the first id of a column of words is no number.
-fn column_said(column: IdColumn, line: &[u8]) -> Option<TraceLine>
-    ensures { result ≡ column_said column line.now }
+/// Why the row of a table of this number says nothing.
+pub fn row_flaw_at(table: Table<'_>, number: u64, piece: &[u8]) -> RowFlaw
+    ensures { result ≡ row_flaw_at table.entry number piece.now }
 {
-    match column.ids {
-        IdKind::Unknown => first_said(column, line),
-        IdKind::Numbers => to_page(column_page(column, line)),
-        IdKind::Words => word_said(column, line),
-    }
-}
-
-/// The same of its first line.
-fn first_said(column: IdColumn, line: &[u8]) -> Option<TraceLine>
-    ensures { result ≡ page_or (word_said is_first_word (column_text column line.now))
-        (column_page column line.now) }
-{
-    match column_page(column, line) {
-        Some(page) => to_page(Some(page)),
-        None => first_word_said(column, line),
-    }
-}
-
-fn first_word_said(column: IdColumn, line: &[u8]) -> Option<TraceLine>
-    ensures { result ≡ word_said is_first_word (column_text column line.now) }
-{
-    let text = column_text(column, line)?;
-    if is_first_word(text) {
-        return Some(TraceLine::Word);
-    }
-    None
-}
-
-fn word_said(column: IdColumn, line: &[u8]) -> Option<TraceLine>
-    ensures { result ≡ word_said is_word (column_text column line.now) }
-{
-    let text = column_text(column, line)?;
-    if is_word(text) {
-        return Some(TraceLine::Word);
-    }
-    None
+    row_flaw(table, plain_line(number, piece))
 }
 
 /// The word of a line that has one.
-pub fn word_of(format: TraceFormat, number: u64, piece: &[u8]) -> &[u8]
-    ensures { result.now ≡ word_of format number piece.now }
+pub fn word_of<'t>(format: TraceFormat<'_>, number: u64, piece: &'t [u8]) -> &'t [u8]
+    ensures { result.now ≡ word_of format.entry number piece.now }
 {
     match format {
-        TraceFormat::Columns(column) => word_in(column, plain_line(number, piece)),
+        TraceFormat::Columns(table) => word_in(table, plain_line(number, piece)),
         _ => &piece[..0],
     }
 }
 
-fn word_in(column: IdColumn, line: &[u8]) -> &[u8]
-    ensures { result.now ≡ unwrap_or (column_text column line.now) [] }
+fn word_in<'t>(table: Table<'_>, line: &'t [u8]) -> &'t [u8]
+    ensures { result.now ≡ unwrap_or (text_in table.entry.separator table.entry.id line.now) [] }
 {
-    match column_text(column, line) {
+    match text_in(table.separator, table.id, line) {
         Some(text) => text,
         None => &line[..0],
     }
 }
 
 /// What a line says whose word has this number: as one whose id is that number.
-pub fn word_numbered(number: u64) -> TraceLine
-    ensures { result ≡ word_numbered number }
+pub fn word_numbered<'a>(number: u64, is_written: bool) -> TraceLine<'a>
+    ensures { result ≡ word_numbered number is_written }
 {
     TraceLine::Refers(LineReferences {
         first: Reference {
             page: page_of_id(number),
-            is_written: false,
+            is_written,
         },
-        second: None,
+        more: 0,
     })
 }
 
-fn to_page(page: Option<Key>) -> Option<TraceLine>
+#[inline(always)]
+fn to_page<'a>(page: Option<Key>) -> Option<TraceLine<'a>>
     ensures { result ≡ option_map to_page page }
 {
     let page = page?;
@@ -215,100 +186,97 @@ fn to_page(page: Option<Key>) -> Option<TraceLine>
             page,
             is_written: false,
         },
-        second: None,
+        more: 0,
     }))
 }
 
-fn to_reference(reference: Option<Reference>) -> Option<TraceLine>
+#[inline(always)]
+fn to_reference<'a>(reference: Option<Reference>) -> Option<TraceLine<'a>>
     ensures { result ≡ option_map to_reference reference }
 {
     let first = reference?;
-    Some(TraceLine::Refers(LineReferences {
-        first,
-        second: None,
-    }))
+    Some(TraceLine::Refers(LineReferences { first, more: 0 }))
 }
 
-fn names(column: Option<IdColumn>) -> Option<TraceLine>
-    ensures { result ≡ option_map Names column }
+fn names<'a>(table: Option<Table<'a>>) -> Option<TraceLine<'a>>
+    ensures { result ≡ option_map Names table.entry }
 {
-    let column = column?;
-    Some(TraceLine::Names(column))
+    let table = table?;
+    Some(TraceLine::Names(table))
 }
 
-fn address_said(line: Option<AddressLine>) -> Option<TraceLine>
+fn address_said<'a>(line: Option<AddressLine>) -> Option<TraceLine<'a>>
     ensures { result ≡ option_map address_said line }
 {
     match line? {
         AddressLine::Access(access) => Some(TraceLine::Refers(LineReferences {
-            first: first_of(access),
-            second: second_of(access),
+            first: Reference {
+                page: page_of_id(access.first),
+                is_written: access.is_written,
+            },
+            more: access.more,
         })),
         AddressLine::Other => Some(TraceLine::LeftOut),
     }
 }
 
-/// The reference to the page of an access's first byte.
-fn first_of(access: Access) -> Reference
-    ensures { result ≡ first_of access }
-{
-    Reference {
-        page: page_of_id(access.first),
-        is_written: access.is_written,
-    }
-}
-
-/// The reference to the page of its last byte, where that is another page.
-#[tactic(auto, unfolding(crate::specs::Lines::second_of))]
-fn second_of(access: Access) -> Option<Reference>
-    ensures { result ≡ second_of access }
-{
-    if access.last == access.first {
-        return None;
-    }
-    Some(Reference {
-        page: page_of_id(access.last),
-        is_written: access.is_written,
-    })
-}
-
 /// How the lines behind a line are read: behind the names of its columns a table has lines of columns, and behind its first id it is known
 /// what its ids are.
-pub fn format_behind(line: TraceLine, format: TraceFormat) -> TraceFormat
-    ensures { result ≡ format_behind (Some line) format }
+#[inline(always)]
+pub fn format_behind<'a>(line: TraceLine<'a>, format: TraceFormat<'a>) -> TraceFormat<'a>
+    ensures { result ≡ format_behind (Some line.entry) format.entry }
 {
     match format {
-        TraceFormat::Csv => table_behind(line),
-        TraceFormat::Columns(column) => TraceFormat::Columns(column_behind(line, column)),
+        TraceFormat::Csv(table) => csv_behind(line, table),
+        TraceFormat::Columns(table) => TraceFormat::Columns(table_behind(line, table)),
         _ => format,
     }
 }
 
-fn column_behind(line: TraceLine, column: IdColumn) -> IdColumn
-    ensures { result ≡ column_behind (Some line) column }
+#[inline(always)]
+fn csv_behind<'a>(line: TraceLine<'a>, table: Table<'a>) -> TraceFormat<'a>
+    ensures { result ≡ csv_behind (Some line.entry) table.entry }
 {
-    let IdColumn {
-        place,
-        separator,
-        ids,
-    } = column;
-    let ids = match line {
-        TraceLine::Refers(_) => IdKind::Numbers,
-        TraceLine::Word => IdKind::Words,
-        TraceLine::LeftOut | TraceLine::Names(_) => ids,
-    };
-    IdColumn {
-        place,
-        separator,
-        ids,
+    match line {
+        TraceLine::Names(found) => TraceFormat::Columns(found),
+        TraceLine::Refers(_) | TraceLine::Word(_) | TraceLine::LeftOut => TraceFormat::Csv(table),
     }
 }
 
-fn table_behind(line: TraceLine) -> TraceFormat
-    ensures { result ≡ csv_behind (Some line) }
+#[inline(always)]
+fn table_behind<'a>(line: TraceLine<'a>, table: Table<'a>) -> Table<'a>
+    ensures { result ≡ table_behind (Some line.entry) table.entry }
+{
+    Table {
+        id: table.id,
+        volume: table.volume,
+        size: table.size,
+        op: table.op,
+        page_size: table.page_size,
+        writes: table.writes,
+        separator: table.separator,
+        ids: ids_behind(line, table.ids),
+    }
+}
+
+/// What the ids are, once a line was read.
+#[inline(always)]
+fn ids_behind(line: TraceLine<'_>, ids: IdKind) -> IdKind
+    ensures { result ≡ ids_behind (Some line.entry) ids }
+{
+    match ids {
+        IdKind::Unknown => first_kind(line),
+        IdKind::Numbers | IdKind::Words | IdKind::Texts => ids,
+    }
+}
+
+/// The same where no id came before.
+fn first_kind(line: TraceLine<'_>) -> IdKind
+    ensures { result ≡ ids_behind (Some line.entry) IdKind.Unknown }
 {
     match line {
-        TraceLine::Names(column) => TraceFormat::Columns(column),
-        TraceLine::Refers(_) | TraceLine::Word | TraceLine::LeftOut => TraceFormat::Csv,
+        TraceLine::Refers(_) => IdKind::Numbers,
+        TraceLine::Word(_) => IdKind::Words,
+        TraceLine::LeftOut | TraceLine::Names(_) => IdKind::Unknown,
     }
 }

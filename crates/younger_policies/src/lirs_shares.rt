@@ -57,7 +57,10 @@ fn most_stack(hundredths: Option<u32>, frames: Frames) -> Option<usize>
     ensures { result ≡ most_stack hundredths frames.number }
 {
     match hundredths {
-        Some(hundredths) => Some(frames.number() * hundredths as usize / 100),
+        Some(hundredths) => {
+            let most = frames.number() as u64 * u64::from(hundredths) / 100;
+            Some(most.min(usize::MAX as u64) as usize)
+        }
         None => None,
     }
 }

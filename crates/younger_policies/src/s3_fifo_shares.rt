@@ -56,7 +56,7 @@ impl S3FifoShares {
             frames: number,
             hundredths,
             main,
-            ghosts: main * self.ghosts as usize / 100,
+            ghosts: (main as u64 * u64::from(self.ghosts) / 100) as usize,
             moved: self.moved,
         }
     }

@@ -37,7 +37,7 @@ impl TwoQueueShares {
         TwoQueueRooms {
             frames: number,
             kin: number * self.kin as usize / 100,
-            kout: number * self.kout as usize / 100,
+            kout: (number as u64 * u64::from(self.kout) / 100) as usize,
         }
     }
 }

@@ -1,20 +1,17 @@
 -- When a page's cleaning begins and when a copy of it goes out; and how many copies can be out.
 use Rattle.std.proofs.Common.{◌≡◌, ℕ, zero, suc, ◌+◌, ◌^◌, ◌<◌, ◌≤◌, ◌&&◌, Bool, true, false, cond, List, Option, Some, None, refl, sym, ap, ◌∙◌, inl, inr, arith, subst}
-use Rattle.frame_pool.specs.FrameValue.{FrameValue}
 use Rattle.std.specs.Prelude.{IsFalse}
 use Rattle.std.proofs.lemmas.Bool.Decides.{eqb_tells}
-use Rattle.page_store.specs.Cleaning.{IfOut, IfCopyOut, CopiedPage, copied_clean, copy_resident, copy_cleaning, copy_unmarked, is_being_cleaned}
+use Rattle.page_store.specs.Cleaning.{IfOut, IfCopyOut, is_being_cleaned}
 use Rattle.page_store.specs.Keeping.{Keeping, NoSlot, Saved, Unbacked, Cleaning, CopyOut, is_copy_out}
 use Rattle.page_store.specs.PageValue.{PageValue, Place, Fresh, Resident, Leaving, Saving, Away, Purged, frame_of, slot_of}
-use Rattle.page_store.specs.declared.answer.CleanCopy.{CleanCopy}
 use Rattle.page_store.specs.declared.answer.CleanCopy.TheVariants as answer
-use Rattle.page_store.specs.declared.refusal.CleanRefusal.{CleanRefusal}
 use Rattle.page_memory.specs.declared.rights.Rights.{Rights}
 use Rattle.page_store.specs.JobValue.{SavedValue}
 use Rattle.sv32_table.specs.Entry.{Entry}
 use Rattle.sv32_table.specs.EntryAt.{entry_at, dirty_of}
 use Rattle.sv32_table.proofs.EntryLaws.{dirty_of-page_entry}
-use Rattle.paged_memory.specs.cleaning.Cleaning.{BeginsCleaning, DoesNotClean, RefusesClean, CopiesAt, CopiesPage, IsCopyOf, refused_of, page_refusal, clean_refusal_in, is_cleaning_in}
+use Rattle.paged_memory.specs.cleaning.Cleaning.{IsCopyOf, is_cleaning_in}
 use Rattle.paged_memory.specs.Coheres.{HoldsIn}
 use Rattle.paged_memory.specs.cleaning.Copies.{StandsAt, CopyStands, KeepsCopies, CopyGoesOut, is_copied_in, copies_among}
 use Rattle.paged_memory.specs.Counting.{page_passes, pages_below, pages_where, frame_passes}
@@ -22,7 +19,6 @@ use Rattle.paged_memory.proofs.access_laws.FewerLaws.{Implies, fewer_where, one_
 use Rattle.paged_memory.specs.Paged.{PagedValue, page_at, seen_at}
 use Rattle.paged_memory.specs.Seen.{Seen, Standing, entry_seen, entry_standing}
 use Rattle.paged_memory.specs.Seen as seen
-use Rattle.paged_memory.specs.Soundness.{is_marked}
 use Rattle.paged_memory.specs.Whole.{frames_among}
 
 first_of : (a : Bool) → (a && true) ≡ true → a ≡ true
@@ -47,67 +43,6 @@ dirty_seen (Some page) e is = by_standing page.rights page.standing is
 
 module _ {S : Type 0} where
   -- ---- a cleaning begins where nothing bars it
-
-  pub refused_bar : (ended : Bool) (vpn : ℕ) (refusal : CleanRefusal) (memory : PagedValue S) → DoesNotClean ended vpn refusal memory → clean_refusal_in ended memory vpn ≡ Some refusal
-  refused_bar ended vpn refusal memory why = by_page (page_at memory.pages vpn) why
-    where
-      dirty : Bool
-      dirty = dirty_of (entry_at memory.tables vpn)
-
-      by_page : (o : Option (PageValue S)) → RefusesClean ended dirty o refusal → page_refusal ended dirty o ≡ Some refusal
-      by_page None why = ap {B = Option CleanRefusal} (λ r. Some r) (sym why)
-      by_page (Some page) why = ap refused_of why
-
-  pub begun_unbarred : (ended : Bool) (vpn : ℕ) (old new : PagedValue S) → BeginsCleaning ended vpn old new → clean_refusal_in ended old vpn ≡ None
-  begun_unbarred ended vpn old new begins = ap (page_refusal ended (dirty_of (entry_at old.tables vpn))) begins.page.found ∙ ap refused_of begins.page.how.place
-
-  -- ---- a copy is looked for where a page is being cleaned
-
-  abbrev pub is_answered : CleanCopy S → Bool
-  is_answered answer.NotCleaning = false
-  is_answered answer.Stored = true
-  is_answered answer.NotYet = true
-  is_answered answer.NoSlot = true
-  is_answered (answer.Copied job) = true
-
-  module _ (process vpn : ℕ) where
-    answered_own : (frame : FrameValue) (own spare : Option S) → is_answered (copy_unmarked process vpn frame own spare).1.1 ≡ true
-    answered_own frame None None = refl
-    answered_own frame None (Some slot) = refl
-    answered_own frame (Some slot) spare = refl
-
-    answered_marks : (frame : FrameValue) (own : Option S) (dirty marked : Bool) (spare : Option S) → is_answered (copy_cleaning process vpn frame own dirty marked spare).1.1 ≡ true
-    answered_marks frame own true marked spare = refl
-    answered_marks frame own false true spare = refl
-    answered_marks frame own false false spare = answered_own frame own spare
-
-    answered_slot : (frame : FrameValue) (slot : Keeping S) (dirty marked : Bool) (spare : Option S) → is_answered (copy_resident process vpn frame slot dirty marked spare).1.1 ≡ is_being_cleaned (Resident frame slot)
-    answered_slot frame NoSlot dirty marked spare = refl
-    answered_slot frame (Saved copy) dirty marked spare = refl
-    answered_slot frame (Unbacked own) dirty marked spare = refl
-    answered_slot frame (Cleaning own) dirty marked spare = answered_marks frame own dirty marked spare
-    answered_slot frame CopyOut dirty marked spare = refl
-
-    answered_place : (dirty marked : Bool) (place : Place S) (spare : Option S) → is_answered (copied_clean process vpn dirty marked place spare).1.1 ≡ is_being_cleaned place
-    answered_place dirty marked Fresh spare = refl
-    answered_place dirty marked (Resident frame slot) spare = answered_slot frame slot dirty marked spare
-    answered_place dirty marked (Leaving frame slot mark) spare = refl
-    answered_place dirty marked (Saving frame mark) spare = refl
-    answered_place dirty marked (Away copy) spare = refl
-    answered_place dirty marked Purged spare = refl
-
-  pub copy_answered : (vpn : ℕ) (spare spare' : Option S) (a : CleanCopy S) (old new : PagedValue S) → CopiesPage vpn spare spare' a old new → is_cleaning_in old vpn ≡ is_answered a
-  copy_answered vpn spare spare' a old new copies = by_page (page_at old.pages vpn) refl copies
-    where
-      dirty : Bool
-      dirty = dirty_of (entry_at old.tables vpn)
-
-      by_page : (o : Option (PageValue S)) → page_at old.pages vpn ≡ o → CopiesAt old.process vpn dirty (is_marked vpn old.caches) spare spare' a old.pages new.pages o → is_cleaning_in old vpn ≡ is_answered a
-      by_page None at told = ap (page_passes (λ (page : PageValue S). is_being_cleaned page.place)) at ∙ sym (ap is_answered told.0)
-      by_page (Some page) at told =
-          ap (page_passes (λ (page : PageValue S). is_being_cleaned page.place)) told.found
-          ∙ sym (answered_place old.process vpn dirty (is_marked vpn old.caches) told.page.place spare)
-          ∙ sym (ap (λ (t : CopiedPage S). is_answered t.1.1) told.how.1)
 
   -- ---- a page of which a copy is out holds a frame
 

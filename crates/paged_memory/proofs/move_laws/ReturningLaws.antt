@@ -13,7 +13,7 @@ use Rattle.sv32_table.specs.Entry.{Entry, page_entry}
 use Rattle.sv32_table.specs.EntryAt.{entry_at, has_table, ChangesEntry, SameTables}
 use Rattle.sv32_table.proofs.EntryLaws.{dirty-page_entry}
 use Rattle.tlb_core.specs.declared.translation.Translation.{Translation}
-use Rattle.paged_memory.specs.Seen.{frame_seen, rights_seen, takes_stores, is_used}
+use Rattle.paged_memory.specs.Seen.{frame_seen, rights_seen, takes_stores}
 use Rattle.paged_memory.specs.moves.Leaving.{is_leaving, is_leaving_place, Returns, ReturnsAs}
 use Rattle.paged_memory.specs.Calls.{ChangesBy}
 use Rattle.paged_memory.specs.Paged.{seen_of, page_at, seen_at, flat_page, flat_pages, Holds, HoldsOrigin, IsConstant, ChangesPage}
@@ -87,9 +87,6 @@ module _ {S : Type 0} where
 
     constant_now : IsConstant (entry_at tables number).dirty page → IsConstant entry.dirty page_now
     constant_now was = λ fixed. subst (λ d. HoldsOrigin d told.page.origin.bytes back.frame back.slot) (sym dirty_is) (was fixed)
-
-    unused : is_used (seen_at pages number) (entry_at tables number) ≡ false
-    unused = ap (λ s. is_used s (entry_at tables number)) seen_then
 
     module _ (tables' : List (List ℕ)) (entries : ChangesEntry tables tables' number (page_entry back.frame.number told.page.origin.rights false mark)) (same : SameTables tables tables') where
       change : Change held honest pages pages' tables tables' number page_now entry

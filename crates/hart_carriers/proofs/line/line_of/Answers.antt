@@ -1,4 +1,4 @@
--- What was published last is what is told, which is a flat run's.
+-- What was published last is what is reported, which is a flat run's.
 use Rattle.elf_image.specs.Start.{start_of}
 use Rattle.machine_sides.specs.Reporting.{told}
 use Rattle.hart_carriers.proofs.FlatRuns.{counted, on_true, stands_for_run}

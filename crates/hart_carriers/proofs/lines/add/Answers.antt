@@ -1,6 +1,6 @@
-use Rattle.std.proofs.Common.{◌≡◌, ◌<◌, length, arith}
+use Rattle.std.proofs.Common.{◌≡◌, ◌<◌, ◌++◌, ◌∷◌, [], length, map, ap, ◌∙◌, arith}
 use Rattle.machine_sides.specs.Reporting.{told}
-use Rattle.hart_carriers.proofs.Growing.{stands_at}
+use Rattle.hart_carriers.proofs.Growing.{map_push, stands_at}
 use Rattle.hart_carriers.proofs.lines.add.Goals as goal
 
 pub returns-clause-adds : goal.returns-clause-adds
@@ -17,3 +17,8 @@ returns-clause-adds g c =
       stands = λ honest started. stands_at c.args.handed.now _ _ c.index-handed-len.result c.as_slice.result.now (told c.line_of-line.result.report) is small c.index-handed-len.is c.as_slice.ensures.value (c.line_of-line.ensures.stands honest started);
       counted = c.line_of-line.ensures.last;
     }
+
+pub returns-clause-told : goal.returns-clause-told
+returns-clause-told g c =
+    ap (map told) c.push_reserved-2.ensures.items ∙ map_push told c.args.told.now.processes.items c.line_of-line.result.report
+    ∙ ap (λ t. map told c.args.told.now.processes.items ++ t ∷ []) c.line_of-line.ensures.told

@@ -1,9 +1,9 @@
 use Rattle.std.proofs.Common.{◌≡◌, ◌<◌, ◌≤◌, ◌-◌, ℕ, List, arith, length, min, subst}
 use Rattle.std.proofs.lemmas.Grind.{common_steps}
-use Rattle.clock_policy.specs.declared.key.Key.{Key}
+use Rattle.guest_strings.specs.declared.reference.Reference.{Reference}
 use Rattle.miss_counts.specs.Replayed.{RowsPlay}
 use Rattle.trace_files.specs.ReferenceAnswers.{to_come}
-use Rattle.trace_files.proofs.ManyTold.{empty_block}
+use Rattle.trace_files.proofs.ManyTold.{empty_string}
 use Rattle.policies_cli.proofs.Streaming.{ends_at, plays_end, plays_none, plays_on}
 use Rattle.policies_cli.proofs.replay_stream.play.Goals as goal
 
@@ -24,7 +24,7 @@ turns-preserved g c =
     let few : length c.fill.new.block.items ≤ c.min-left.result = c.fill.ensures.few in
     let bound : c.turns.count ≤ c.args.most = c.turns.invariant.few in
     let past : c.turns.counter ≤ c.turns.count = c.turns.invariant.turns in
-    let plays : RowsPlay c.fill.new.block.items c.turns.rows c.play.new.self = subst (λ (l : List Key). RowsPlay l c.turns.rows c.play.new.self) c.as_slice.ensures.value c.in_ok-play.ensures in record {
+    let plays : RowsPlay c.fill.new.block.items c.turns.rows c.play.new.self = subst (λ (l : List Reference). RowsPlay l c.turns.rows c.play.new.self) c.as_slice.ensures.value c.in_ok-play.ensures in record {
       played = plays_on c.fill.new.block.items (to_come g.B.Read.remaining c.args.trace.now) (to_come g.B.Read.remaining c.turns.trace) (to_come g.B.Read.remaining c.fill.new.self) c.args.rows.now c.turns.rows c.play.new.self
           c.turns.count c.len.result c.turns.invariant.played c.in_ok-fill.ensures.told size plays;
       few = omega (arith, size, few, most, bound);
@@ -35,7 +35,7 @@ pub returns-then-is_empty-clause-played : goal.returns-then-is_empty-clause-play
 returns-then-is_empty-clause-played g c =
     let none : length c.fill.new.block.items ≡ 0 = grind (arith, common_steps, c.fill.new.block.ok.0) in
     plays_end c.fill.new.block.items (to_come g.B.Read.remaining c.args.trace.now) (to_come g.B.Read.remaining c.turns.trace) (to_come g.B.Read.remaining c.fill.new.self) c.args.rows.now c.turns.rows c.turns.count
-    c.turns.invariant.played c.in_ok-fill.ensures.told (empty_block c.fill.new.block.items none)
+    c.turns.invariant.played c.in_ok-fill.ensures.told (empty_string c.fill.new.block.items none)
 
 pub returns-then-is_empty-clause-end : goal.returns-then-is_empty-clause-end
 returns-then-is_empty-clause-end g c = λ less.

@@ -3,7 +3,7 @@ use Rattle.std.proofs.lemmas.List.{get_or_default}
 use Rattle.run_paths.specs.declared.path.Stretch.{Stretch}
 use Rattle.run_paths.specs.declared.path.Whose.TheVariants.{ByTurns}
 use Rattle.run_paths.specs.Paths.{steps_of}
-use Rattle.run_paths.proofs.Parts.{count_more}
+use Rattle.run_paths.proofs.Parts.{count_more, count_none}
 use Rattle.run_paths.proofs.path.count_of.Goals as goal
 
 nothing : Stretch
@@ -19,4 +19,12 @@ stretches-preserved c =
     let n = c.stretches.stretch-index in
     let path = c.args.path.now in
     let here = slice_index_or path n nothing in
-    count_more path n c.stretches.count c.in_ok-count.count here c.stretches-test.true (get_or_default path n nothing here c.stretches-test.true) c.stretches.invariant c.in_ok-count.ensures
+    count_more path n c.stretches.count c.in_ok-count.count here c.stretches-test.true (get_or_default path n nothing here c.stretches-test.true) c.stretches.invariant c.in_ok-count.ensures.sum
+
+pub returns-in_err-count-clause-many : goal.returns-in_err-count-clause-many
+unfolding nothing
+returns-in_err-count-clause-many c =
+    let n = c.stretches.stretch-index in
+    let path = c.args.path.now in
+    let here = slice_index_or path n nothing in
+    count_none c.from_residual.result path n c.stretches.count here c.stretches-test.true (get_or_default path n nothing here c.stretches-test.true) c.stretches.invariant c.in_err-count.ensures.large

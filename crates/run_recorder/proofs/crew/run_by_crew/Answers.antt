@@ -29,4 +29,5 @@ returns g c =
     record {
       ran = record { run = c.in-Ok.run'; is_report = reported; sound = sound; first = first };
       flat = line_stands start _ items c.swap_remove.result (reported.stands tt sound) refl first;
+      early = tt;
     }

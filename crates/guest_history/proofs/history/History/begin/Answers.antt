@@ -8,16 +8,19 @@ use Rattle.guest_history.proofs.history.History.begin.Goals as goal
 
 pub returns : goal.returns
 returns c = record {
-  stands = record {
-    counted = c.requires.counted;
-    within = omega arith;
-    led = led_first c.args.path.stretches.items c.args.program c.in_ok-begin.field-0 (place_of c.new-debugger.result) c.in_ok-begin.ensures (ap place_of c.new-debugger.ensures);
-    points = ap (λ debugger. debugger.points) c.new-debugger.ensures;
-    ranged = no_points;
-    kept = record { copies = subst (All (IsKept c.args.program c.args.path.stretches.items c.args.path.total)) (sym c.new.ensures.none) (All-nil (IsKept c.args.program c.args.path.stretches.items c.args.path.total)); spaced = c.new.ensures.spaced };
+  begins = record {
+    stands = record {
+      counted = c.requires.counted;
+      within = omega arith;
+      led = led_first c.args.path.stretches.items c.args.program c.in_ok-begin.field-0 (place_of c.new-debugger.result) c.in_ok-begin.ensures (ap place_of c.new-debugger.ensures);
+      points = ap (λ debugger. debugger.points) c.new-debugger.ensures;
+      ranged = no_points;
+      kept = record { copies = subst (All (IsKept c.args.program c.args.path.stretches.items c.args.path.total)) (sym c.new.ensures.none) (All-nil (IsKept c.args.program c.args.path.stretches.items c.args.path.total)); spaced = c.new.ensures.spaced };
+    };
+    program_is = refl;
+    path_is = refl;
+    recorded = refl;
+    none = refl;
   };
-  program_is = refl;
-  path_is = refl;
-  recorded = refl;
-  none = refl;
+  refused = tt;
 }

@@ -10,7 +10,7 @@ use Rattle.guest_history.specs.Histories.{place_of}
 use Rattle.std.proofs.lemmas.Option.{none-some}
 use Rattle.run_paths.proofs.Parts.{count_all, steps_part}
 use Rattle.guest_history.proofs.ByRecord.{at_end_of, goes_on, led_by, none_before, none_passed, stops_there}
-use Rattle.guest_history.proofs.GoneOn.{next_turn, turn_done}
+use Rattle.guest_history.proofs.GoneOn.{last_after, next_turn, turn_done}
 use Rattle.guest_history.proofs.history.History.go_by_record.Goals as goal
 
 nothing : Stretch
@@ -27,6 +27,7 @@ stretches-init c = record {
   done = omega arith;
   count = omega arith;
   steps = omega arith;
+  last = c.turn-last.ensures;
   passed = none_passed c.args.self.now.debugger.points c.args.self.now.path.stretches.items (beginning c.args.self.now.program) c.args.self.now.done c.args.limit c.args.self.now.debugger.target;
 }
 
@@ -69,6 +70,8 @@ stretches-preserved c =
           c.in_ok-why.ensures.few passes.1;
       count = omega (arith, count, more);
       steps = omega (arith, sum, less);
+      last = last_after old c.stretches.self here c.stretches.taken c.in_ok-why.steps c.stretches.last c.last_of-last.result next c.in_ok-why.ensures.few (ap (λ (p : Path). p.stretches.items) c.stretches.invariant.path) count c.stretches.invariant.last
+          c.last_of-last.ensures.some c.last_of-last.ensures.none;
       passed = goes_on c.stretches.self c.go_turn.new.self (beginning old.program) old.done c.args.limit c.stretches.taken c.stretches.left here c.in_ok-why.why c.in_ok-why.steps old.debugger.points old.path.stretches.items
           c.stretches.invariant.stands next c.in_ok-why.ensures.gone (ap beginning (sym c.stretches.invariant.program)) c.stretches.invariant.points (ap (λ (p : Path). p.stretches.items) c.stretches.invariant.path) c.stretches.invariant.count
           c.stretches.invariant.steps c.stretches.invariant.passed passes.0;
@@ -97,6 +100,8 @@ returns-then-stops-clause-gone c =
           c.stretches.invariant.stands next c.in_ok-why.ensures.gone (ap beginning (sym c.stretches.invariant.program)) c.stretches.invariant.points (ap (λ (p : Path). p.stretches.items) c.stretches.invariant.path) c.stretches.invariant.count
           c.stretches.invariant.steps c.stretches.invariant.passed (c.stops.ensures.yes c.if-stops.true);
       ends = λ none. absurd (none-some c.in_ok-why.why (sym none));
+      last_is = last_after old c.stretches.self here c.stretches.taken c.in_ok-why.steps c.stretches.last c.last_of-last.result next c.in_ok-why.ensures.few (ap (λ (p : Path). p.stretches.items) c.stretches.invariant.path) count c.stretches.invariant.last
+          c.last_of-last.ensures.some c.last_of-last.ensures.none;
     }
 
 pub returns-clause-gone : goal.returns-clause-gone
@@ -122,4 +127,5 @@ returns-clause-gone c =
           (led_by old now c.stretches.taken c.stretches.invariant.stands c.stretches.invariant.path c.stretches.invariant.program count) (omega (arith, all, size, within, counted)) c.stretches.invariant.steps
           ∙ sym c.why_at_end-why.ensures;
       ends = λ none. omega (arith, count, all, size, within);
+      last_is = c.stretches.invariant.last;
     }

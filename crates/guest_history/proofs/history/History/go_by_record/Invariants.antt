@@ -1,5 +1,6 @@
 use Rattle.std.proofs.Common.{◌≡◌, ◌+◌, take}
 use Rattle.guest_history.specs.Checkpoints.{beginning}
+use Rattle.guest_history.specs.Going.{last_by}
 use Rattle.guest_history.specs.Histories.{Stands}
 use Rattle.run_paths.specs.Paths.{steps_of}
 use Rattle.guest_history.proofs.ByRecord.{Passed}
@@ -16,5 +17,6 @@ invariant-stretches l = record {
   done : l.self.done ≡ l.first + steps_of (take l.stretch-index l.stretch-items);
   count : l.self.done ≡ l.first + l.taken;
   steps : l.taken + l.left ≡ l.limit;
+  last : l.last ≡ last_by l.taken l.fn.self;
   passed : Passed l.fn.self.debugger.points l.fn.self.path.stretches.items (beginning l.fn.self.program) l.first l.limit l.taken l.self.debugger.target;
 }

@@ -1,0 +1,6 @@
+pub mod FramedLaws
+pub mod TickedLaws
+pub mod WsClockLaws
+mod UsesPlayLaws
+mod WsClockPlayLaws
+mod TickedPlayLaws

@@ -1,0 +1,5 @@
+pub mod Uses
+pub mod Framed
+pub mod Ticked
+pub mod WsClock
+pub mod SecondChance

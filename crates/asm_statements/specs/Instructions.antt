@@ -69,7 +69,7 @@ lui operands = given (register_number operands) (λ r. map_ok (λ n. insn.Lui r.
 unfoldable pub auipc : List Operand → Result Insn FaultKind
 auipc operands = given (register_number operands) (λ r. map_ok (λ n. insn.Auipc r.0 n) (up_to 0xFFFFF r.1))
 
--- `fence` orders all before it to all behind it; or `fence n, rd, rs1`
+-- `fence` orders everything before it ahead of everything after it; or `fence n, rd, rs1`
 unfoldable pub fence : List Operand → Result Insn FaultKind
 fence [] = Ok (insn.Fence 0xFF 0 0)
 fence (first ∷ rest) =

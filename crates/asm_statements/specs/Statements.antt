@@ -27,7 +27,7 @@ directives =
     ∷ (codes ".byte", statement.Values Byte) ∷ (codes ".ascii", statement.Ascii) ∷ (codes ".space", statement.Space)
     ∷ (codes "li", statement.LoadImmediate) ∷ []
 
--- what a name stands for
+-- what a name means
 unfoldable pub statement_of : List ℕ → Option Statement
 statement_of name = option_or (named directives name) (option_map statement.Code (mnemonic_of name))
 

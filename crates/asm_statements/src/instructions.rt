@@ -114,7 +114,7 @@ pub(crate) fn auipc(operands: &[Operand]) -> Result<Insn, FaultKind>
     Ok(Insn::Auipc { rd, immediate })
 }
 
-/// `fence`, which orders all before it to all behind it, or `fence n, rd, rs1`.
+/// `fence`, which orders everything before it ahead of everything after it, or `fence n, rd, rs1`.
 #[tactic(auto, unfolding(crate::specs::Instructions::fence))]
 pub(crate) fn fence(operands: &[Operand]) -> Result<Insn, FaultKind>
     ensures { result ≡ form.fence operands.now }

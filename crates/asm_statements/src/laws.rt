@@ -20,8 +20,8 @@ pub fn loaded_word()
         → (pos word ≡ n) ⊎ (pos word ≡ n +ℤ pos (2 ^ 32)) }
 {}
 
-/// Pseudo-instructions do what the instructions do that the assembly programmer's manual has for them, whatever their operands'
-/// names; `li` and `la` are told by [`loaded_word`].
+/// Pseudo-instructions do the same as the instructions that the assembly programmer's manual gives for them, whatever their operands'
+/// names. [`loaded_word`] covers `li` and `la`.
 pub fn pseudo_instructions_are_instructions()
     ensures nop { DoesTheSame (codes "nop") [] (codes "addi") (Name (codes "zero") ∷
         Name (codes "zero") ∷ Number (pos 0) ∷ []) }

@@ -1,4 +1,4 @@
--- The state that the fields of a body stand for.
+-- The state that the fields of a body represent.
 use Rattle.std.specs.Prelude.{◌≡◌, ◌<◌, length}
 use Rattle.clock_moves.specs.declared.found.Found.{Found}
 use Rattle.clock_list.specs.declared.body.Body.{Body}
@@ -14,6 +14,6 @@ state_of b = record {
   test_hand = b.test_hand;
 }
 
--- the entry's page stands at this place
+-- the entry's page is at this place
 abbrev pub HoldsEntry : Body → Found → Type 0
 HoldsEntry b f = (f.at ≡ place f.entry.key b.entries.items) × (f.at < length b.entries.items)

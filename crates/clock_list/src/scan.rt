@@ -45,7 +45,7 @@ pub(crate) fn process_count(entries: &[Entry], process: u32) -> usize
     entries.iter().filter(|e| e.key.process == process).count()
 }
 
-/// How many entries stand before the key's, or all of them where it has none.
+/// How many entries come before the key's, or the number of all entries if the key has none.
 pub(crate) fn place(entries: &[Entry], key: Key) -> usize
     ensures at { result ≡ place key entries.now }
     ensures within { result ≤ length entries.now }

@@ -1,4 +1,4 @@
--- The state that the fields of a body stand for.
+-- The state that the fields of a body represent.
 use Rattle.std.specs.Prelude.{◌≡◌, Some}
 use Rattle.clock_policy.specs.ClockPro.{ClockState}
 use Rattle.page_ring.specs.Index.{entries_of}

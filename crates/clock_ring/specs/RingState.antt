@@ -17,7 +17,7 @@ abbrev pub entry_at_node : List Cell → ℕ → Option Entry
 entry_at_node [] n = None
 entry_at_node (c ∷ cs) n = cond (c.at == n) (Some c.entry) (entry_at_node cs n)
 
--- the page that a hand on a node stands on
+-- the page of the node that a hand points to
 abbrev pub hand_at : List Cell → ℕ → Option Key
 hand_at cs n = found_key (entry_at_node cs n)
 
@@ -33,7 +33,7 @@ before_at (c ∷ cs) n = cond (c.at == n) [] (c ∷ before_at cs n)
 abbrev pub around : List Cell → ℕ → List Cell
 around cs n = from_at cs n ++ before_at cs n
 
--- a hand stands on a node of the circle, or anywhere where there is none
+-- a hand points to a node of the circle, or anywhere if the circle has no node
 abbrev pub Rests : List Cell → ℕ → Type 0
 Rests [] n = Unit {0}
 Rests (c ∷ cs) n = is_at (c ∷ cs) n ≡ true

@@ -35,7 +35,7 @@ pub(crate) struct Body {
     ghost kept: { Kept ring.cells cold_hand test_hand counts frames } by { Kept-prop ring.cells cold_hand test_hand counts frames },
 }
 
-/// Where a hand rests once a node is out: on the next, if it stood there.
+/// The node of a hand after a node is removed: the next node, if the hand pointed to the removed one.
 pub(crate) fn after(hand: usize, at: usize, next: usize) -> usize
     ensures { result ≡ cond (hand == at) next hand }
 {
@@ -104,7 +104,7 @@ impl Body {
         self.test_hand = after(self.test_hand, at, next);
     }
 
-    /// Adds an entry of a new page as the last. Hands that stand on none rest on it.
+    /// Adds an entry of a new page as the last. Hands that point to no node then point to it.
     #[inline(always)]
     pub(crate) fn append(&mut self, entry: Entry)
         requires new { at_of entry.key self.old.ring.cells ≡ None }
@@ -136,7 +136,7 @@ impl Body {
         self.test_hand = found.at;
     }
 
-    /// The page that a hand stands on.
+    /// The page that a hand points to.
     fn key_at(&self, hand: usize) -> Option<Key>
         requires { Rests self.now.ring.cells hand }
         ensures { result ≡ hand_at self.now.ring.cells hand }

@@ -22,7 +22,7 @@ fn first_hot(ring: &IndexedRing, start: usize) -> Found
     ensures first { find (λ e. is_hot e.kind) (entries_of (around ring.now.cells start)) ≡
         Some result.entry }
 {
-    // For the proof alone: a read tells that what is read is lawful.
+    // For the proof only: a read shows that what is read is lawful.
     let _ = ring.len();
     let mut at = start;
     'to_hot: loop {
@@ -45,7 +45,7 @@ fn first_cold(ring: &IndexedRing, start: usize) -> Found
     ensures first { find (λ e. is_cold e.kind) (entries_of (around ring.now.cells start)) ≡
         Some result.entry }
 {
-    // For the proof alone: a read tells that what is read is lawful.
+    // For the proof only: a read shows that what is read is lawful.
     let _ = ring.len();
     let mut at = start;
     'to_cold: loop {

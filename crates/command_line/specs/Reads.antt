@@ -1,4 +1,4 @@
--- What stands for an application, where it could be made.
+-- The command that represents an application, where it could be made.
 use Rattle.std.specs.Prelude.{◌≡◌, false, Result, IfOk}
 use Rattle.clap.specs.Simple.{App, app_of}
 use Rattle.clap.specs.declared.builder.command.Command.{Command}

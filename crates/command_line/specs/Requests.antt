@@ -15,7 +15,7 @@ use Rattle.command_line.specs.declared.request.DebugRequest.{DebugRequest}
 use Rattle.command_line.specs.declared.request.Request.{Request}
 use Rattle.command_line.specs.declared.request.Request.TheVariants.{Asm, Flat, Clock, Drive, Run, Debug}
 
--- what numbers are where no option tells them, and their bounds: frames and slots of a machine, instructions of a slice and of a
+-- the values of numbers that no option gives, and the bounds of numbers: frames and slots of a machine, instructions of a slice and of a
 -- whole run, threads, images
 abbrev pub usual_frames : ℕ
 usual_frames = 64
@@ -76,12 +76,12 @@ AreImages rows names = (all_of (codes "image") rows ≡ Some names) × (length n
 abbrev pub IsSet : Text → List Row → Type 0
 IsSet name rows = first_of name rows ≡ Some (codes "true")
 
--- a number of workers, told or usual
+-- a number of workers, given or the default
 abbrev pub AreWorkers : List Row → ℕ → Type 0
 AreWorkers rows workers = IsOption usual_workers 1 most_workers workers (first_of (codes "workers") rows)
 
--- One thread is asked for, or else so many workers. A number of workers may stand beside the flag for one thread, and has to lie in its
--- range; lines that tell how far the processes are may not, nor may pages be written ahead.
+-- The request is for one thread, or else for so many workers. The flag for one thread allows a number of workers, which has to be in its
+-- range. That flag allows neither lines that report how far the processes are, nor pages that are written ahead.
 abbrev pub AsksThreading : List Row → Threading → Type 0
 AsksThreading rows Serial = IsSet (codes "serial") rows × ((¬ IsSet (codes "status") rows) × ((¬ IsSet (codes "ahead") rows) × ((workers : ℕ) × AreWorkers rows workers)))
 AsksThreading rows (Workers workers status ahead) =

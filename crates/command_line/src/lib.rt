@@ -1,4 +1,4 @@
-//! The command line of the program `paged`: the request that the words behind the program's name make.
+//! The command line of the program `paged`: the request that the words after the program's name make.
 #![tactic(auto)]
 
 mod commands;

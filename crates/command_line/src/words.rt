@@ -20,7 +20,7 @@ use clap::error::ErrorKind;
 use std::alloc::Global;
 use std::convert::AsStr;
 
-/// The request that the words behind the program's name make.
+/// The request that the words after the program's name make.
 pub fn read_request<'a, S: AsStr>(alloc: Global, words: &'a [S]) -> Result<Request<'a>, UsageError>
     ensures in_range { IfOk result IsInRange }
 
@@ -28,7 +28,7 @@ pub fn read_request<'a, S: AsStr>(alloc: Global, words: &'a [S]) -> Result<Reque
     ensures asked { IfOk result (IsAsked (subcommand_of paged_app (map S.text words.now))) }
     ensures no_fault { IfOk result (λ _. fault_of paged_app (map S.text words.now) ≡ []) }
 
-    // They are refused only where they have a fault, or where they ask for nothing; else want of memory alone refuses them.
+    // The words are bad usage only where they have a fault, or where they ask for nothing. The only other error is lack of memory.
     ensures bad { result ≡ Err UsageError.BadUsage → IsBadUsage (map S.text words.now) }
 {
     let matches = parse(alloc, words)?;

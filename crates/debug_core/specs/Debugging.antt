@@ -39,11 +39,11 @@ opening_moment alone process turn = record { process = process; turn = turn; was
 abbrev pub first_moment : Process → ℕ → Moment
 first_moment process turn = opening_moment false process turn
 
--- and where this hart runs alone
+-- and where only this hart runs
 abbrev pub lone_moment : Process → ℕ → Moment
 lone_moment process hart = opening_moment true process hart
 
--- whose turn it is after so many steps of a hart that ran alone: as after each of them
+-- whose turn it is after so many steps of the only hart that ran: as after each of them
 abbrev pub turn_left : ℕ → ℕ → ℕ → Process → ℕ
 turn_left zero hart turn process = turn
 turn_left (suc count) hart turn process = turn_after hart process
@@ -54,8 +54,8 @@ abbrev pub StepsOnce : (Limit → Type 0) → DebugStep → ℕ → Process → 
 StepsOnce limits Ran hart old turn new next = (flat_step hart old ≡ Some new) × (next ≡ turn_after hart new) × (¬ limits (CannotRecord [] hart))
 StepsOnce limits Absent hart old turn new next = (new ≡ old) × (next ≡ turn) × (may_step hart old ≡ true) × (¬ limits (CannotRecord [] hart)) × limits (CannotHave hart)
 
--- Why a step is refused: the hart is not live, or the process has ended, or is ended now since the step can't be recorded, or memory is
--- wanting.
+-- Why a step is refused. The hart is not live; or the process has ended, or is ended now since the step can't be recorded; or there is
+-- not enough memory.
 abbrev pub RefusesStep : (Limit → Type 0) → DebugRefusal → ℕ → Process → Process → Type 0
 RefusesStep limits Full hart old new = ⊥
 RefusesStep limits BadRange hart old new = ⊥
@@ -67,8 +67,8 @@ RefusesStep limits Purged hart old new = ⊥
 RefusesStep limits Device hart old new = ⊥
 RefusesStep limits NoMemory hart old new = (may_step hart old ≡ true) × (new ≡ old) × (¬ limits (CannotRecord [] hart))
 
--- Why a look at so many bytes from an address on is refused: they are no range, or no page is mapped at one of them, or the target
--- can't read them, or memory is wanting for those that it can read.
+-- Why a look at so many bytes from an address on is refused. They are no range; or no page is mapped at one of them; or the target
+-- can't read them; or it can read them, but there is not enough memory.
 abbrev pub RefusesLook : (Limit → Type 0) → DebugRefusal → ℕ → ℕ → Memory → Type 0
 RefusesLook limits Full address count memory = ⊥
 RefusesLook limits BadRange address count memory = ¬ IsRange 4096 address count
@@ -80,8 +80,8 @@ RefusesLook limits Purged address count memory = IsRange 4096 address count × (
 RefusesLook limits Device address count memory = IsRange 4096 address count × ((all_there (bytes_from memory address count) ≡ true) × (limits (CannotRead address count fault.Device) × (¬ limits (CannotRead address count fault.Purged))))
 RefusesLook limits NoMemory address count memory = IsRange 4096 address count × ((all_there (bytes_from memory address count) ≡ true) × CanRead limits address count)
 
--- Why a run of one hart is refused: the hart is not live, and nothing has changed; or memory is wanting for a step of it, and the steps
--- before it stand.
+-- Why a run of one hart is refused. The hart is not live, and nothing has changed; or there is not enough memory for a step of it, and
+-- the steps before it remain.
 abbrev pub RefusesGo : {T : Type 0} → (T → Limit → Type 0) → DebugRefusal → T → List (Option Point) → ℕ → ℕ → Process → ℕ → Process → ℕ → Type 0
 RefusesGo limits Full target points limit hart old turn new next = ⊥
 RefusesGo limits BadRange target points limit hart old turn new next = ⊥

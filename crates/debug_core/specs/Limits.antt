@@ -5,7 +5,7 @@ use Rattle.debug_core.specs.declared.target.TargetStep.TheVariants.{Ran, Absent,
 use Rattle.debug_core.specs.declared.target.TargetFault.{TargetFault}
 use Rattle.debug_core.specs.declared.target.TargetFault.TheVariants.{Purged, Device}
 
--- It can't read so many bytes from an address on, for this reason; it can't record one more step of a hart behind steps of these
+-- It can't read so many bytes from an address on, for this reason; it can't record one more step of a hart after steps of these
 -- harts; or it can't have a page that the next step of a hart needs.
 pub data Limit : Type 0 where
   CannotRead : ℕ → ℕ → TargetFault → Limit
@@ -35,7 +35,7 @@ HeedsLimits Full hart limits = limits (CannotRecord [] hart)
 abbrev pub KeepsRoom : (Limit → Type 0) → (Limit → Type 0) → Type 0
 KeepsRoom old new = (harts : List ℕ) (hart : ℕ) → new (CannotRecord harts hart) ↔ old (CannotRecord harts hart)
 
--- what can be recorded is what could be recorded behind a step of this hart
+-- what can be recorded is what could be recorded after a step of this hart
 abbrev pub RecordsOne : ℕ → (Limit → Type 0) → (Limit → Type 0) → Type 0
 RecordsOne ran old new = (harts : List ℕ) (hart : ℕ) → new (CannotRecord harts hart) ↔ old (CannotRecord (ran ∷ harts) hart)
 

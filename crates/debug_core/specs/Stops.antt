@@ -15,14 +15,14 @@ use Rattle.debug_core.specs.declared.point.Why.{Why}
 use Rattle.debug_core.specs.declared.point.Why.TheVariants.{Ended, Watch, Gone, Break, Absent}
 use Rattle.debug_core.specs.declared.point.Why.TheVariants as stop
 
--- a process, whose turn it is, the memory before the last step, which is none before the first, and whether one hart runs alone
+-- a process, whose turn it is, the memory before the last step, which is none before the first, and whether only one hart runs
 pub record Moment : Type 0 where
   pub process : Process
   pub turn : ℕ
   pub was : Memory
   pub alone : Bool
 
--- whose turn it is after a step of a hart: its own again, where it runs alone
+-- whose turn it is after a step of a hart: its own again, where only it runs
 abbrev pub turn_next : Bool → ℕ → Process → ℕ
 turn_next false turn process = turn_after turn process
 turn_next true turn process = turn
@@ -46,7 +46,7 @@ last_hart (suc count) first = option_map (λ now. now.turn) (moment_after count 
 abbrev pub watch_hit : List (Option Point) → Moment → Option ℕ
 watch_hit points now = position_from (is_hit now.was now.process.memory) 0 points
 
--- the least number of a break at which a hart stands with these registers
+-- the least number of a break that a hart with these registers is at
 abbrev pub break_at : List (Option Point) → Option Registers → Option ℕ
 break_at points None = None
 break_at points (Some registers) = position_from (is_break_at registers.pc) 0 points
@@ -57,8 +57,8 @@ reason_before points limit count now =
     option_or (option_map Break (break_at points (hart_registers now.turn now.process)))
     (if count == limit then Some stop.Limit else None)
 
--- why a debugger stops at a moment after so many steps, if it does: the process has ended, or a watch is hit, or the hart that runs alone
--- has ended, or there is a reason before its next step; the first of these that holds
+-- why a debugger stops at a moment after so many steps, if it does: the process has ended; or a watch is hit; or the only hart that runs
+-- has ended; or there is a reason before its next step; the first of these that holds
 abbrev pub reason : List (Option Point) → ℕ → ℕ → Moment → Option Why
 reason points limit count now =
     if is_some now.process.ending then Some Ended
@@ -103,7 +103,7 @@ module _ {T : Type 0} (shown : T → Process) (limits : T → Limit → Type 0) 
   abbrev pub IsLacking : ℕ → Process → Type 0
   IsLacking hart process = (at : T) × ((shown at ≡ process) × limits at (CannotHave hart))
 
-  -- Why a debugger stops after so many steps, and with which process; `full` tells that no more can be recorded. Where that is so, or
+  -- Why a debugger stops after so many steps, and with which process; `full` means that no more can be recorded. Where that is so, or
   -- where a page that the next step needs can't be had, there was no reason before; where the bytes of a watch can't be read, the
   -- process has not ended, and no watch with a lower number was hit.
   abbrev pub StopsFor : Type 0 → Why → List (Option Point) → ℕ → ℕ → Moment → Process → Type 0
@@ -130,8 +130,8 @@ module _ {T : Type 0} (shown : T → Process) (limits : T → Limit → Type 0) 
       (reason points limit count now ≡ None) × ((next_moment now ≡ Some (record { process = process; turn = turn; was = now.process.memory; alone = now.alone })) × (¬ full))
   Advances full (Some why) points limit count now turn process = StopsFor full why points limit count now process × (turn ≡ now.turn)
 
--- so many steps were done, none of them and nothing after the last was a reason to stop, and for the next one, which could be recorded,
--- memory is wanting
+-- so many steps were done; none of them and nothing after the last was a reason to stop; and the next one could be recorded, but there is
+-- not enough memory for it
 pub record WantsAfter {T : Type 0} (limits : T → Limit → Type 0) (target : T) (points : List (Option Point)) (limit count : ℕ) (first : Moment) (turn : ℕ) (process : Process) : Type 0 where
   pub now : Moment
   pub passes : Passes (limits target) points limit count first now

@@ -172,7 +172,7 @@ impl<T: Target> Debugger<T> {
     ///
     /// # Errors
     ///
-    /// The hart is not live, or memory is wanting for a step; the steps before it remain.
+    /// The hart is not live, or there is not enough memory for a step; the steps before it remain.
     pub fn go_hart(&mut self, hart: u32, limit: u64) -> Result<(Why, u64), DebugRefusal>
         ensures live { IfOk result (λ _. is_live hart (T.shown self.old.target) ≡ true) }
         ensures stops { IfOk result (λ stop. Stops T.shown T.limits self.old.target self.old.points

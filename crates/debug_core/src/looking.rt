@@ -10,7 +10,7 @@ ghost use Rattle.debug_core.specs.Seen.{AreSeen, CannotSee, IsSeen, IsUnread};
 use crate::point::{MOST_WATCHED, Point};
 use crate::target::{Target, TargetFault};
 
-/// The bytes of a watch, and nothing behind them.
+/// The bytes of a watch, and nothing after them.
 pub(crate) type Window = [Option<u8>; MOST_WATCHED as usize];
 
 /// The window of a watch before anything was seen.

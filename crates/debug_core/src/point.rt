@@ -7,7 +7,7 @@ pub const MOST_WATCHED: u32 = 16;
 /// Where a debugger stops.
 #[derive(Clone, Copy, Debug, PartialEq, Eq)]
 pub enum Point {
-    /// Before the instruction at an address, where the hart stands there whose turn it is.
+    /// Before the instruction at an address, where the hart that has the turn is at this address.
     Break { address: u32 },
     /// After a step that changed the value of one of so many bytes from an address on.
     Watch { address: u32, length: u32 },
@@ -20,9 +20,9 @@ pub enum Why {
     Ended,
     /// The last step changed a byte of the watch with this number.
     Watch(u32),
-    /// The hart that runs alone has ended.
+    /// The only hart that runs has ended.
     Gone,
-    /// The hart whose turn it is stands at the break with this number.
+    /// The hart that has the turn is at the break with this number.
     Break(u32),
     /// As many steps were done as were allowed.
     Limit,

@@ -19,7 +19,7 @@ use crate::target::{StepsTaken, Target, TargetFault, TargetStep};
 use flat_machine::OutOfMemory;
 use std::alloc::AllocError;
 
-/// The number of the first break at which a hart stands.
+/// The number of the first break that a hart is at.
 pub(crate) fn break_at<T: Target>(target: &T, turn: u32, points: &[Option<Point>]) -> Option<u32>
     requires few { length points.now ≤ 32 }
     ensures { result ≡ break_at points.now (hart_registers turn (T.shown target.now)) }
@@ -51,8 +51,8 @@ fn is_break_at(pc: u32, point: Option<Point>) -> bool
     }
 }
 
-/// Why to stop before the next step, after so many of as many as are allowed; `None` to go on. A byte that is watched and can't be
-/// had is told as a fault.
+/// Why to stop before the next step, after so many of as many as are allowed; `None` to go on. A watched byte that can't be
+/// read is reported as a fault.
 fn reason_now<T: Target>(
     target: &mut T,
     alone: bool,
@@ -103,7 +103,7 @@ fn reason_now<T: Target>(
     Ok(None)
 }
 
-/// Stops for a reason, or takes the step of the hart whose turn it is, and which it stays where that hart runs alone.
+/// Stops for a reason, or takes the step of the hart whose turn it is. The turn stays with that hart where only it runs.
 ///
 /// # Errors
 ///
@@ -172,7 +172,7 @@ fn turn_next<T: Target>(target: &T, alone: bool, turn: u32) -> u32
     if alone { turn } else { target.turn_after(turn) }
 }
 
-/// Takes the steps that can be taken at once: none, where there are points to look at, or where a hart runs alone.
+/// Takes the steps that can be taken at once. There are none where there are points to look at, or where only one hart runs.
 fn take_at_once<T: Target>(
     target: &mut T,
     alone: bool,
@@ -208,7 +208,7 @@ fn take_at_once<T: Target>(
 /// How a run came to its end.
 #[derive(Clone, Copy)]
 pub(crate) struct Ran {
-    /// Why it stopped, or that memory was wanting for the next step.
+    /// Why it stopped, or that there was not enough memory for the next step.
     pub(crate) why: Result<Why, AllocError>,
     /// How many steps were done.
     pub(crate) steps: u64,
@@ -216,7 +216,7 @@ pub(crate) struct Ran {
     pub(crate) last: u32,
 }
 
-/// Steps the harts by turns, or only one, until there is a reason to stop or memory is wanting for a step.
+/// Steps the harts by turns, or only one, until there is a reason to stop or not enough memory for a step.
 pub(crate) fn run<T: Target>(
     target: &mut T,
     alone: bool,

@@ -36,7 +36,7 @@ AnswersRemove number old Removed new =
 AnswersRemove number old (Refused why) new = (why ≡ refusal.NoPoint) × (point_at old.points number ≡ None) × (new ≡ old)
 AnswersRemove number old other new = ⊥
 
--- `shown` is the flat process that a target shows, and `limits` tells what it lacks
+-- `shown` is the flat process that a target shows, and `limits` says what the target lacks
 module _ {T : Type 0} (shown : T → Process) (limits : T → Limit → Type 0) where
   -- the flat step of a hart
   abbrev pub AnswersStep : ℕ → DebuggerValue T → DebugReply → DebuggerValue T → Type 0
@@ -66,7 +66,7 @@ module _ {T : Type 0} (shown : T → Process) (limits : T → Limit → Type 0) 
       × (new.points ≡ old.points)
   AnswersRun limit old other new = ⊥
 
-  -- flat steps of one hart alone, to the first reason to stop
+  -- flat steps of only one hart, to the first reason to stop
   abbrev pub AnswersGoHart : ℕ → ℕ → DebuggerValue T → DebugReply → DebuggerValue T → Type 0
   AnswersGoHart hart limit old (Told why last turn steps) new =
       (is_live hart (shown old.target) ≡ true)

@@ -35,7 +35,7 @@ Ends dialect (Err NoMemory) above below = ⊤
 Ends dialect (Err CannotRead) above below = ⊤
 Ends dialect (Err CannotWrite) above below = ⊤
 
--- what was told stands behind what was written before, unless the output took no more
+-- the text of the replies follows what was written before, unless the output took no more
 abbrev pub IsWritten : Result (Unit {0}) SessionFault → Option (List ℕ) → List ℕ → Option (List ℕ) → Type 0
 IsWritten (Ok done) written told wrote = Appends written wrote told
 IsWritten (Err (BadLine number)) written told wrote = Appends written wrote told
@@ -43,9 +43,9 @@ IsWritten (Err NoMemory) written told wrote = Appends written wrote told
 IsWritten (Err CannotRead) written told wrote = Appends written wrote told
 IsWritten (Err CannotWrite) written told wrote = ⊤
 
--- `dialect` tells which lines there are, `shown` is the flat process that a target shows, and `limits` tells what it lacks
+-- `dialect` says which lines there are, `shown` is the flat process that a target shows, and `limits` says what the target lacks
 module _ (dialect : Dialect) {T : Type 0} (shown : T → Process) (limits : T → Limit → Type 0) where
-  -- what is told of a line, and what the debugger is after it
+  -- what is printed for a line, and what the debugger is after it
   abbrev pub IsAnswered : List ℕ → DebuggerValue T → List ℕ → DebuggerValue T → Type 0
   IsAnswered line old told new = (IsRemark line × (told ≡ []) × (new ≡ old))
       ⊎ ((asked : DebugLine) × ((reply : DebugReply) × AsksFor dialect asked line × Answers shown limits asked old (Some reply) new
@@ -57,14 +57,14 @@ module _ (dialect : Dialect) {T : Type 0} (shown : T → Process) (limits : T �
   AreAnswered (line ∷ lines) old told new = (now : DebuggerValue T) × ((first : List ℕ) × ((others : List ℕ) ×
       IsAnswered line old first now × AreAnswered lines now others new × (told ≡ first ++ others)))
 
-  -- a line is skipped or answered, and what is told is written; or it is `quit`; or it is bad
+  -- a line is skipped or answered, and the reply, if any, is written; or it is `quit`; or it is bad
   abbrev pub TakesTurn : Turn → List ℕ → DebuggerValue T → Option (List ℕ) → DebuggerValue T → Option (List ℕ) → Type 0
   TakesTurn GoesOn line old written new wrote = (told : List ℕ) × IsAnswered line old told new × Appends written wrote told
   TakesTurn Quits line old written new wrote = AsksFor dialect Quit line × (new ≡ old) × Appends written wrote []
   TakesTurn Bad line old written new wrote = IsBad dialect line × (new ≡ old) × Appends written wrote []
 
-  -- Some lines were answered, one after another, and what was told is written. Where the input's bytes are known, these are the first of
-  -- its lines, and below them stands `quit`, or nothing, or the bad line whose number is told.
+  -- Some lines were answered, one after another, and the replies are written. Where the input's bytes are known, these lines are its
+  -- first lines. After them comes `quit`, or nothing, or the bad line whose number is reported.
   pub record HasConversed (result : Result (Unit {0}) SessionFault) (input : Option (List ℕ)) (old : DebuggerValue T) (written : Option (List ℕ))
       (new : DebuggerValue T) (wrote : Option (List ℕ)) : Type 0 where
     pub lines : List (List ℕ)

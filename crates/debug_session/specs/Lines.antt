@@ -8,8 +8,8 @@ use Rattle.debug_session.specs.declared.lines.DebugLine.TheVariants.{Break, Watc
 use Rattle.debug_session.specs.declared.lines.Dialect.{Dialect}
 use Rattle.debug_session.specs.declared.lines.Dialect.TheVariants.{Fuller}
 
--- the words that ask for something in a dialect: in the plain one there is nothing that asks to run, by turns or one
--- hart alone, for the end, or for live harts
+-- the words that ask for something in a dialect: in the plain one there is nothing that asks to run, by turns or only one
+-- hart, for the end, or for live harts
 abbrev pub WritesLine : Dialect → DebugLine → List (List ℕ) → Type 0
 WritesLine dialect (Break address) words = AreNameAndNumber (codes "break") address words
 WritesLine dialect (Watch address length) words = AreNameAndNumbers (codes "watch") address length words
@@ -29,13 +29,13 @@ abbrev pub WritesWord : Dialect → DebugLine → List ℕ → Type 0
 WritesWord dialect End word = (dialect ≡ Fuller) × (word ≡ codes "end")
 WritesWord dialect other word = ⊥
 
--- the same of a name with a number behind it that only the fuller dialect has
+-- the same of a name with a number after it that only the fuller dialect has
 abbrev pub WritesFuller : Dialect → DebugLine → List ℕ → ℕ → Type 0
 WritesFuller dialect (Run limit) name number = (dialect ≡ Fuller) × (name ≡ codes "run") × (limit ≡ number)
 WritesFuller dialect (Live hart) name number = (dialect ≡ Fuller) × (name ≡ codes "live") × (hart ≡ number)
 WritesFuller dialect other name number = ⊥
 
--- the same of a name with two numbers behind it that only the fuller dialect has
+-- the same of a name with two numbers after it that only the fuller dialect has
 abbrev pub WritesPair : Dialect → DebugLine → List ℕ → ℕ → ℕ → Type 0
 WritesPair dialect (GoHart hart limit) name first second = (dialect ≡ Fuller) × (name ≡ codes "go-hart") × (hart ≡ first) × (limit ≡ second)
 WritesPair dialect other name first second = ⊥

@@ -14,12 +14,12 @@ use Rattle.debug_session.specs.declared.reply.DebugReply.TheVariants.{Point, Rem
 unfoldable pub byte_text : ℕ → List ℕ
 byte_text byte = digit_glyph true (byte / 16) ∷ digit_glyph true (byte % 16) ∷ []
 
--- a word in eight of them, behind `0x`
+-- a word in eight of them, after `0x`
 unfoldable pub word_text : ℕ → List ℕ
 word_text word = codes "0x" ++ byte_text (word / 0x1000000) ++ byte_text (word / 0x10000 % 256) ++ byte_text (word / 0x100 % 256)
     ++ byte_text (word % 256)
 
--- the lines of x1 up to a register, each behind a line end
+-- the lines of x1 up to a register, each after a line end
 unfoldable pub register_lines : ℕ → Registers → List ℕ
 register_lines zero regs = []
 register_lines (suc n) regs = register_lines n regs

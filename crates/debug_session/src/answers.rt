@@ -7,7 +7,7 @@ use crate::reply::DebugReply;
 use debug_core::{DebugRefusal, Debugger, Target};
 use std::alloc::{AllocError, Global};
 
-/// Does what a line asks for, and tells what came of it; `None` where the line is `quit`.
+/// Does what a line asks for, and returns the reply; `None` where the line is `quit`.
 pub fn answer<T: Target>(
     alloc: Global,
     debugger: &mut Debugger<T>,

@@ -19,7 +19,7 @@ impl fmt::Display for HexByte {
     }
 }
 
-/// A word, in eight digits behind `0x`.
+/// A word, in eight digits after `0x`.
 #[derive(Clone, Copy)]
 pub(crate) struct HexWord(pub u32);
 

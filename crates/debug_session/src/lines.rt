@@ -35,7 +35,7 @@ pub enum DebugLine {
     Regs { hart: u32 },
     /// Show so many bytes from an address on.
     Mem { address: u32, length: u32 },
-    /// The same as `Go`, with the harts told of the last step and of the next.
+    /// The same as `Go`, with the harts of the last step and of the next in the reply.
     Run { limit: u32 },
     /// Run so many instructions at most of only one hart, with the harts of the last step and of the next in the reply.
     GoHart { hart: u32, limit: u32 },
@@ -75,7 +75,7 @@ fn is_utf8(line: &[u8]) -> bool
     str::from_utf8(line).is_ok()
 }
 
-/// What a name asks for with the words behind it.
+/// What a name asks for with the words after it.
 fn line_with(dialect: Dialect, name: &[u8], rest: &[u8]) -> Option<DebugLine>
     ensures found { IfSome result (λ asked.
         WritesLine dialect asked (name.now ∷ words_of rest.now)) }

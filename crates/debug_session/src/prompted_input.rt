@@ -5,7 +5,7 @@ ghost use Rattle.std.specs.Prelude.{◌≡◌, Ok};
 use std::io;
 use std::io::{Read, Write};
 
-/// What stands in front of a line that a user is to type.
+/// The text before a line that a user is to type.
 const PROMPT: &str = "(paged) ";
 
 /// An input that writes a prompt to where the user sees it, each time before it waits for a line, where a user types the lines.

@@ -1,4 +1,4 @@
-//! Replies as they are told.
+//! Replies as they are printed.
 
 use crate::hexadecimal::{HexByte, HexWord};
 use crate::reply::DebugReply;
@@ -58,7 +58,7 @@ impl fmt::Display for DebugReply {
     }
 }
 
-/// Why a debugger stopped, with the hart that stands at a break.
+/// Why a debugger stopped, with the hart that is at a break.
 #[derive(Clone, Copy)]
 struct Stop {
     why: Why,

@@ -17,7 +17,7 @@ use Rattle.decoded_pages.specs.Stands.{Stands}
 abbrev pub is_code : Rights → Bool
 is_code rights = if may Store rights then false else may Fetch rights
 
--- the instructions stand for the words of a page that starts there; after the last stands what is not decoded
+-- the instructions represent the words of a page that starts there; after the last is one that is not decoded
 pub record IsDecoded (page : DecodedPage) (content : Page) : Type 0 where
   pub aligned : page.start % 4096 ≡ 0
   pub small : page.start < 2 ^ 32

@@ -12,7 +12,7 @@ use Rattle.decoded_pages.specs.declared.instruction.DecodedInstruction.{DecodedI
 use Rattle.decoded_pages.specs.Classes.{Class, class_of, decoded_as, data_of, stores_of, OfClass, Falls}
 use Rattle.decoded_pages.specs.Running.{IsServed}
 
--- the instruction of that number of the page that starts there has this line, and left these registers, whose pc stands aside, and
+-- the instruction of that number of the page that starts there has this line. It left these registers, whose pc is kept separately, and
 -- this memory
 abbrev pub Follows : After → Line → (start place : ℕ) → Registers → Memory → Type 0
 Follows after.Next line start place regs memory = line ≡ Next (with_pc regs (word_sum (start + place * 4) 4)) memory
@@ -37,7 +37,7 @@ FallsAfter after.Next c = Falls c
 FallsAfter (after.To relative) c = Unit {0}
 FallsAfter after.ByWord c = Unit {0}
 
--- a decoded instruction, the one of that number of the page that starts there, came to this: whatever line it stands for is what was done
+-- a decoded instruction, the one of that number of the page that starts there, gave this result: whatever line it represents was done
 pub record Performs (decoded : DecodedInstruction) (start place : ℕ) (result : After) (regs regs' : Registers) (memory memory' : Memory) : Type 0 where
   pub followed : (line : Line) → OfClass (class_of decoded.operation) (line ≡ decoded_as decoded start (with_pc regs (start + place * 4)) memory) → Follows result line start place regs' memory'
   pub falls : FallsAfter result (class_of decoded.operation)

@@ -1,4 +1,4 @@
--- Which decoded instruction stands for a word at its place.
+-- Which decoded instruction represents a word at its place.
 use Rattle.std.specs.Prelude.{◌≡◌, ℕ, ◌+◌, ◌*◌, [], Option}
 use Rattle.page_memory.specs.Memory.{Memory}
 use Rattle.rv_isa.specs.declared.instruction.Insn.{Insn}

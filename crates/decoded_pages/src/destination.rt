@@ -24,7 +24,7 @@ impl Model for Destination {
 }
 
 impl Destination {
-    /// What stands where nothing is written.
+    /// The value where no register is written.
     pub fn unused() -> Self {
         Destination { index: 1 }
     }

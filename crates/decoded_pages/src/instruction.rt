@@ -28,7 +28,7 @@ pub struct DecodedInstruction {
 }
 
 impl DecodedInstruction {
-    /// What stands for a word that is in the page which starts there, as its instruction of that number.
+    /// The decoded instruction that represents a word, which has that number in the page that starts there.
     #[tactic(auto, using(crate::proofs::Standing::stands_undecoded))]
     pub fn of_word(start: u32, place: u32, word: u32) -> Self
         requires page { start % 4096 ≡ 0 }
@@ -98,7 +98,7 @@ impl DecodedInstruction {
         plain(Operation::ByWord)
     }
 
-    /// What stands after the last word of a page.
+    /// What follows the last word of a page.
     pub fn page_end() -> Self
         ensures { class_of result.operation ≡ Undecoded }
     {

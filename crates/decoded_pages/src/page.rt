@@ -19,7 +19,7 @@ pub const PAGE_WORDS: u32 = 1024;
 pub struct DecodedPage {
     /// The page's first address.
     pub start: u32,
-    /// Its instructions. After the last of them stands the end of the page.
+    /// Its instructions. The end of the page follows the last of them.
     pub instructions: Vec<DecodedInstruction>,
     /// By the number of an instruction: how far a straight line goes from it at most, to the number of the first instruction that is not
     /// done in it.

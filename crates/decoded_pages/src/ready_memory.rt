@@ -10,7 +10,7 @@ use page_memory::{FlatMemory, Width};
 /// What decoded instructions reach memory through. An access that is served changes nothing but the bytes it writes; one that is
 /// not served has changed nothing, and may still be served by other means.
 pub trait ReadyMemory {
-    /// The memory that it stands for.
+    /// The memory that it represents.
     ghost memory: { Self → Memory };
 
     /// That a hart of a number may reach it.

@@ -1,5 +1,5 @@
-//! Endings that the serial driver makes where slots fail, lie or memory is wanting. The numbers are a model's; other endings are in
-//! the sessions with the program.
+//! Endings that the serial driver makes where slots fail or lie, or where there is not enough memory. The numbers are a model's; other
+//! endings are in the sessions with the program.
 
 use crate::guests::{ROUNDS, SPREADS};
 use crate::machine::{endings, fuses, liars, played, played_scantly, processes, sound};

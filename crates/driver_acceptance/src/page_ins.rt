@@ -56,7 +56,7 @@ page:   lw   t2, 0(t0)
         ecall
 ";
 
-/// Two hundred times adds to a word of a page, page 5 n + 3 modulo 16 behind page n, and loads a word of one of four pages.
+/// Adds two hundred times to a word of a page, and loads a word of one of four pages. Page 5 n + 3 modulo 16 comes after page n.
 const HOPS: &str = "        lui  s0, 0x7FFC0
         li   s1, 5
         li   s2, 200

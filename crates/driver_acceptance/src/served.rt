@@ -1,4 +1,4 @@
-//! Instructions that are served one by one, as a debugger steps: a page is told to be out of reach where a run would give it up, and
+//! Instructions that are served one by one, as a debugger steps: a page is reported as unavailable where a run would give it up, and
 //! no sooner.
 
 ghost use Rattle.std.specs.Prelude.{◌≡◌};

@@ -9,7 +9,7 @@ use Rattle.elf_image.specs.Image.{padded}
 abbrev pub page_count : List ℕ → ℕ
 page_count bytes = (length bytes + 4095) / 4096
 
--- the k-th page of bytes that begin with page `first`: zeros stand behind the last byte
+-- the k-th page of bytes that begin with page `first`: zeros follow the last byte
 abbrev pub nth_page : ℕ → Rights → List ℕ → ℕ → ImagePage
 nth_page first rights bytes k =
     record { number = first + k; page = record { rights = rights; bytes = padded (take 4096 (drop (4096 * k) bytes)) } }

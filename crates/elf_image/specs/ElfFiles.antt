@@ -31,7 +31,7 @@ word_at offset file = little_number 4 (drop offset file)
 abbrev pub file_entry : List ℕ → ℕ
 file_entry file = word_at 24 file
 
--- e_phoff: where the program headers stand in the file
+-- e_phoff: the offset of the program headers in the file
 abbrev pub headers_offset : List ℕ → ℕ
 headers_offset file = word_at 28 file
 
@@ -51,7 +51,7 @@ header_at file offset =
       flags = word_at (offset + 24) file;
     }
 
--- the program headers: they stand one behind the other and have 32 bytes each
+-- the program headers: they follow one another and have 32 bytes each
 unfoldable pub program_headers : List ℕ → List ProgramHeader
 program_headers file = map (λ k. header_at file (headers_offset file + 32 * k)) (range_with_len 0 (headers_count file))
 
@@ -71,7 +71,7 @@ load_headers file = filter is_load (program_headers file)
 unfoldable pub segments : List ℕ → List ProgramHeader
 segments file = filter (λ header. nat_lt 0 header.memory_size) (load_headers file)
 
--- the first address behind a segment
+-- the first address after a segment
 abbrev pub end_of : ProgramHeader → ℕ
 end_of segment = segment.address + segment.memory_size
 
@@ -182,7 +182,7 @@ has_flags file = not (bit_and (word_at 36 file) 15 == 0)
 abbrev pub has_no_headers : List ℕ → Bool
 has_no_headers file = nat_lt 0 (headers_count file) && (not (half_at 42 file == 32) || nat_lt (length file) (headers_offset file + 32 * headers_count file))
 
--- 9: bytes that the segment takes from the file lie behind the file's end
+-- 9: bytes that the segment takes from the file are after the file's end
 abbrev pub is_out_of_file : ℕ → ProgramHeader → Bool
 is_out_of_file size header = nat_lt 0 header.file_size && nat_lt size (header.offset + header.file_size)
 

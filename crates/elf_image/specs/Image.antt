@@ -61,6 +61,6 @@ word_page words k = record { number = text_first_page + k; page = record { right
 abbrev pub word_pages : List ℕ → ℕ
 word_pages words = (length words + 1023) / 1024
 
--- the image of words: they stand where text begins, and the first is the entry
+-- the image of words: they begin where text begins, and the first is the entry
 unfoldable pub image_of_words : List ℕ → ImageContent
 image_of_words words = record { entry = text_start; pages = map (word_page words) (range_with_len 0 (word_pages words)) }

@@ -32,6 +32,6 @@ given_rights run =
           + (if list_any (has_flag 1) run then 4 else 0));
     }
 
--- a fault that says that segments touch more pages than an image may have, or that memory is wanting
+-- a fault that says that segments touch more pages than an image may have, or that there is not enough memory
 abbrev pub TouchTooMany : List ProgramHeader → ElfFault → Type 0
 TouchTooMany loaded fault = fault ≢ NoMemory → (fault ≡ TooLarge) × (most_image_pages < length (touched_pages loaded))

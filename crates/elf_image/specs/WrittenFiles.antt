@@ -10,7 +10,7 @@ use Rattle.elf_image.specs.declared.image.ImagePage.{ImagePage}
 use Rattle.elf_image.specs.declared.runs.Run.{Run}
 use Rattle.elf_image.specs.Image.{ImageContent, IsLawful, bytes_of}
 
--- the run of one page, before which so many pages stand
+-- the run of one page, which so many pages precede
 abbrev pub run_of : ℕ → ImagePage → Run
 run_of place listed = record { number = listed.number; place = place; count = 1; rights = listed.page.rights }
 
@@ -23,7 +23,7 @@ unfoldable pub joined : Run → List Run → List Run
 joined run [] = run ∷ []
 joined run (next ∷ later) = cond (goes_on run next) (record { number = run.number; place = run.place; count = run.count + next.count; rights = run.rights } ∷ later) (run ∷ next ∷ later)
 
--- the longest runs of neighbouring pages of equal rights, where so many pages stand before these
+-- the longest runs of neighbouring pages of equal rights, where so many pages precede these
 unfoldable pub runs_from : ℕ → List ImagePage → List Run
 runs_from place [] = []
 runs_from place (listed ∷ rest) = joined (run_of place listed) (runs_from (place + 1) rest)
@@ -43,7 +43,7 @@ identification = 127 ∷ 69 ∷ 76 ∷ 70 ∷ 1 ∷ 1 ∷ 1 ∷ 0 ∷ 0 ∷ 0 �
 abbrev pub kind_and_machine : List ℕ
 kind_and_machine = 2 ∷ 243 ∷ []
 
--- e_version, e_entry, e_phoff (behind this header), e_shoff and e_flags
+-- e_version, e_entry, e_phoff (after this header), e_shoff and e_flags
 abbrev pub places_and_flags : ℕ → List ℕ
 places_and_flags entry = 1 ∷ entry ∷ 52 ∷ 0 ∷ 0 ∷ []
 
@@ -76,11 +76,11 @@ pages_offset count = (52 + 32 * count + 4095) / 4096 * 4096
 abbrev pub padding : ℕ → List ℕ
 padding count = replicate (pages_offset count - (52 + 32 * count)) 0
 
--- the bytes of pages, one behind the other
+-- the bytes of pages, one page after the other
 abbrev pub page_bytes : List ImagePage → List ℕ
 page_bytes pages = flat_map (λ listed. listed.page.bytes) pages
 
--- what stands before them: the headers and the zeros
+-- what precedes them: the headers and the zeros
 unfoldable pub file_front : ℕ → List Run → List ℕ
 file_front entry segments =
     file_header entry (length segments)

@@ -20,7 +20,7 @@ pub fn bytes_of_words(alloc: Global, words: &[u32]) -> Result<Vec<u8>, AllocErro
     Ok(bytes)
 }
 
-/// The pages, and behind them those of more bytes, which begin with the page of this number. Zeros stand behind the last byte.
+/// The given pages, then the pages of more bytes, which begin at this page number. Zeros follow the last byte.
 #[tactic(auto, unfolding(crate::specs::BytePages::byte_pages))]
 pub fn with_pages(
     alloc: Global,

@@ -8,7 +8,7 @@ use Rattle.elf_symbols.specs.declared.symbols.Named.{Named}
 use Rattle.elf_symbols.specs.declared.symbols.Symbols.{Symbols}
 use Rattle.elf_symbols.specs.SymbolTables.{name_of}
 
--- what stands at an address
+-- the symbol that is kept at an address
 abbrev pub standing : Symbols → ℕ → Option Named
 standing symbols address = get nat_cmp symbols.by_address address
 
@@ -16,7 +16,7 @@ standing symbols address = get nat_cmp symbols.by_address address
 abbrev pub symbol_name : Symbols → ℕ → Option (List ℕ)
 symbol_name symbols address = option_map (name_of symbols.names.now) (standing symbols address)
 
--- a place of an address is told by the symbol of the greatest address at or below it
+-- the place of an address is given by the symbol of the greatest address at or below it
 pub record IsNearest (symbols : Symbols) (address : ℕ) (place : Place) : Type 0 where
   pub sum : place.address + place.offset ≡ address
   pub named : symbol_name symbols place.address ≡ Some place.name.now

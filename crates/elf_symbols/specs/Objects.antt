@@ -1,4 +1,4 @@
--- Where an object of a program stands, by the name of its symbol (System V gABI, chapters "Symbol Table" and "Sections").
+-- Where an object of a program is, by the name of its symbol (System V gABI, chapters "Symbol Table" and "Sections").
 use Rattle.std.specs.Prelude.{ℕ, ◌+◌, ◌-◌, ◌*◌, ◌/◌, ◌^◌, ◌<◌, ◌≤◌, ◌==◌, nat_le, nat_lt, Bool, not, ◌&&◌, cond, List, length, drop, find, slice_get, Option, Some, None}
 use Rattle.std.specs.List.{range_with_len}
 use Rattle.std.specs.Option.{option_and_then}
@@ -28,7 +28,7 @@ holds section address size file_length =
     && (nat_le (address + size) (section.address + section.size)
     && (nat_le (section.offset + section.size) file_length && nat_lt (address + size) (2 ^ 32))))
 
--- where such bytes stand in the file
+-- where such bytes are in the file
 unfoldable pub place_in : ℕ → ℕ → ℕ → Section → Option ObjectPlace
 place_in file_length address size section =
     cond (holds section address size file_length) (Some (record { address = address; offset = section.offset + (address - section.address); size = size })) None

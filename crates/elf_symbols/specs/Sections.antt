@@ -18,7 +18,7 @@ half_at offset bytes = little_number 2 (drop offset bytes)
 unfoldable pub word_at : ℕ → List ℕ → ℕ
 word_at offset bytes = little_number 4 (drop offset bytes)
 
--- e_shoff: where the section headers stand in the file
+-- e_shoff: where the section headers are in the file
 abbrev pub headers_offset : List ℕ → ℕ
 headers_offset file = word_at 32 file
 
@@ -47,7 +47,7 @@ section_at file offset =
       link = word_at (offset + 24) file;
     }
 
--- the section of a number: the headers stand one behind the other
+-- the section of a number: the headers are one after the other
 abbrev pub numbered : List ℕ → ℕ → Section
 numbered file number = section_at file (headers_offset file + 40 * number)
 
@@ -73,7 +73,7 @@ both None other = None
 both (Some one) None = None
 both (Some one) (Some other) = Some (one, other)
 
--- the bytes of a symbol table and those of its names, which its sh_link tells
+-- the bytes of a symbol table and those of its names, whose section number is its sh_link
 abbrev pub with_names : List ℕ → Section → Option (List ℕ × List ℕ)
 with_names file table = both (section_bytes file table) (option_and_then (section_bytes file) (slice_get (sections file) table.link))
 

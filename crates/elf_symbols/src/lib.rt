@@ -1,5 +1,5 @@
 //! The symbols of an ELF file of 32 bits, little-endian ("Symbol Table" in the System V ABI): the names of the addresses of a program,
-//! and where its objects stand in the file.
+//! and where its objects are in the file.
 #![tactic(auto)]
 
 mod object;

@@ -10,7 +10,7 @@ use crate::symbols::{SYMBOL_SIZE, is_in_section, name_at};
 /// What kind of section has no bytes in the file.
 const NO_BYTES: u32 = 8;
 
-/// Where an object stands.
+/// Where an object is.
 #[derive(Clone, Copy, PartialEq, Eq, Debug)]
 pub struct ObjectPlace {
     /// In memory.
@@ -68,7 +68,7 @@ fn object_of(file: &[u8], symbol: &[u8]) -> Option<ObjectPlace>
     place_in(file.len(), word_at(symbol, 4), word_at(symbol, 8), section)
 }
 
-/// Where so many bytes of memory stand in a file of this length, if the section has them.
+/// Where so many bytes of memory are in a file of this length, if the section has them.
 #[tactic(auto, unfolding(crate::specs::Objects::place_in, crate::specs::Objects::holds))]
 fn place_in(file_length: usize, address: u32, size: u32, section: Section) -> Option<ObjectPlace>
     ensures found { result ≡ place_in file_length address size section }

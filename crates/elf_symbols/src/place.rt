@@ -2,11 +2,11 @@
 
 use std::fmt;
 
-/// A place of a program: so many bytes behind a symbol.
+/// A place of a program: so many bytes after a symbol.
 #[derive(Clone, Copy, Debug)]
 pub struct Place<'f> {
     pub name: &'f [u8],
-    /// Where the symbol stands.
+    /// Where the symbol is.
     pub address: u32,
     pub offset: u32,
 }

@@ -8,7 +8,7 @@ use crate::reading::{bytes_at, half_at, word_at};
 /// How many bytes the file header has.
 const FILE_HEADER_SIZE: usize = 52;
 
-/// Where it tells where the section headers begin, how large each is and how many there are.
+/// Where the file header says where the section headers begin, how large each is and how many there are.
 const HEADERS_AT: usize = 32;
 
 const HEADER_SIZE_AT: usize = 46;
@@ -25,9 +25,9 @@ const SYMBOL_TABLE: u32 = 2;
 #[derive(Clone, Copy, Debug)]
 pub(crate) struct Section {
     pub(crate) kind: u32,
-    /// Where it stands in memory.
+    /// Where it is in memory.
     pub(crate) address: u32,
-    /// Where it stands in the file, and how many bytes it has.
+    /// Where it is in the file, and how many bytes it has.
     pub(crate) offset: u32,
     pub(crate) size: u32,
     /// For a table of symbols, the number of the section with its names.
@@ -94,7 +94,7 @@ fn read_section(file: &[u8], number: usize) -> Section
     }
 }
 
-/// Where the header of a section stands.
+/// Where the header of a section is.
 fn header_place(file: &[u8], number: usize) -> usize
     requires { number < section_count file.now }
     ensures place { result ≡ headers_offset file.now + 40 * number }

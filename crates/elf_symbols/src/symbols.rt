@@ -16,7 +16,7 @@ pub(crate) const SYMBOL_SIZE: usize = 16;
 /// What kind of symbol a function is.
 const FUNCTION: u8 = 2;
 
-/// The first of the sections' numbers that stand for something else.
+/// The first of the section numbers that represent something other than a section.
 const RESERVED: u16 = 0xFF00;
 
 /// The symbols of a program that name code or places in it, one for each address.
@@ -93,7 +93,7 @@ impl<'f> Symbols<'f> {
         Ok(symbols)
     }
 
-    /// Takes a symbol in. Of several at one address the first function stands, else the first symbol.
+    /// Takes a symbol in. Of several symbols at one address it keeps the first function, else the first symbol.
     fn add(&mut self, entry: Entry) -> Result<(), AllocError>
         ensures added { OnOk result ((address : ℕ) → standing self.new address ≡
             with_entry entry address (standing self.old address)) }
@@ -119,8 +119,8 @@ fn entry_at(table: &[u8], names: &[u8], number: usize) -> Option<Entry>
     entry_of(&table[SYMBOL_SIZE * number..], names)
 }
 
-/// The symbol that 16 bytes are, where it names code or a place in it: it is a function or of no kind, has a section of the program and
-/// a name, and is none of those that only tell code from data (`$x`, `$d` and longer ones), nor a label of the assembler's own (`.L3`).
+/// The symbol that 16 bytes are, where it names code or a place in it. It is a function or of no kind, and has a section of the program
+/// and a name. It is no mapping symbol, which only separates code from data (`$x`, `$d` and longer ones), and no assembler label (`.L3`).
 #[tactic(auto, unfolding(crate::specs::SymbolTables::entry_of))]
 fn entry_of(symbol: &[u8], names: &[u8]) -> Option<Entry>
     requires { 16 ≤ length symbol.now }
@@ -158,7 +158,7 @@ pub(crate) fn is_in_section(section: u16) -> bool
     section > 0 && section < RESERVED
 }
 
-/// Whether a name that stands for a place begins at an offset.
+/// Whether a name that represents a place begins at an offset.
 fn begins_name(names: &[u8], offset: usize) -> bool
     ensures { result ≡ begins_name (slice_get names.now offset) }
 {
@@ -197,7 +197,7 @@ pub(crate) fn name_at(names: &[u8], offset: usize) -> &[u8]
     }
 }
 
-/// Where the first byte 0 stands.
+/// Where the first byte 0 is.
 fn end_of_name(rest: &[u8]) -> Option<usize>
     ensures { result ≡ position (λ byte. byte == 0) rest.now }
 {

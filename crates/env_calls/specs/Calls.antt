@@ -118,12 +118,12 @@ pages_up_to address = (address + 4095) / 4096
 abbrev pub pages_to_add : Environment → ℕ → ℕ
 pages_to_add env request = pages_up_to request - pages_up_to env.break_at
 
--- it moves up alone, no further than an image may reach, and with no more pages than may be mapped
+-- the break moves only up, no further than an image may reach, and with no more pages than may be mapped
 unfoldable pub is_granted : Environment → ℕ → Bool
 is_granted env request =
     nat_lt env.break_at request && (nat_le request image_end && nat_le (env.pages + pages_to_add env request) most_pages)
 
--- the break that stands is the answer in every case
+-- the answer is in every case the break after the call
 abbrev pub moved_break : Registers → Environment → Memory → ℕ → Bool → Effect
 moved_break regs env memory request true =
     answers regs (record env { break_at = request; pages = env.pages + pages_to_add env request })

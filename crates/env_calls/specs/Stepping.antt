@@ -1,4 +1,4 @@
--- What is said of an answer that tells what became of a hart by a step: of its effect, and of what stays.
+-- Facts of an answer that reports what a step did to a hart: its effect, and what does not change.
 use Rattle.std.specs.Prelude.{◌≡◌, ◌+◌, length, Result, Ok, Err}
 use Rattle.page_memory.specs.Memory.{Memory}
 use Rattle.rv_exec.specs.Registers.{Registers}

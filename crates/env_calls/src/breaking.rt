@@ -12,7 +12,7 @@ use crate::env::Env;
 use crate::served::{ServeStop, Served};
 use rv_exec::{Bus, Regs};
 
-/// Serves a request to move the break: the break that stands is the answer.
+/// Serves a request to move the break. The answer is the break after the call.
 #[tactic(auto, unfolding(crate::specs::Calls::move_break, crate::specs::Calls::answers), using(crate::proofs::LeavingLaws::storing_none))]
 pub fn serve_break<B: Bus>(env: &mut Env, regs: &mut Regs, bus: &mut B) -> Result<Served, ServeStop>
     ensures served { let effect = move_break regs.old env.old (B.memory bus.old)

@@ -1,4 +1,4 @@
--- The lines of a clock script, and the calls of the replacement list that they stand for.
+-- The lines of a clock script, and the calls of the replacement list that they represent.
 use Rattle.std.specs.Prelude.{◌≡◌, ℕ, ◌==◌, List, [], ◌∷◌, Bool, codes}
 use Rattle.std.specs.List.{before_first, after_first}
 use Rattle.std.specs.Str.Parse.{digits_value}

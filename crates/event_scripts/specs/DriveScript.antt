@@ -43,7 +43,7 @@ SayAll (line ∷ lines) events = (first : List Event) × ((others : List Event) 
 abbrev pub IsBad : List ℕ → Type 0
 IsBad line = (events : List Event) → ¬ SaysEvents line events
 
--- the lines say these events: all of them, or those above the first bad one, whose number is told, counted from 1
+-- the lines say these events: all of them, or those above the first bad one, whose number is given, counted from 1
 abbrev pub IsScript : List (List ℕ) → List Event → Option ℕ → Type 0
 IsScript lines events None = SayAll lines events
 IsScript lines events (Some number) = (above : List (List ℕ)) × ((bad : List ℕ) × ((below : List (List ℕ)) ×

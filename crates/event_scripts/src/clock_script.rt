@@ -30,7 +30,7 @@ pub enum ClockCall {
     Show,
 }
 
-/// The call that a line of a clock script stands for, if it is not skipped.
+/// The call that a line of a clock script represents, if the line is not skipped.
 pub fn call_on_line(line: &[u8]) -> Result<Option<ClockCall>, BadLine>
     ensures skipped { result ≡ Ok None ↔ IsSkipped line.now }
     ensures call { IfOk result (λ found. IfSome found (λ call.
@@ -107,7 +107,7 @@ fn key(text: &[u8]) -> Option<Key>
     Some(Key { process, vpn })
 }
 
-/// Where the first slash stands.
+/// The position of the first slash.
 fn slash(text: &[u8]) -> Option<usize>
     ensures { result ≡ position is_slash text.now }
 {

@@ -30,7 +30,7 @@ pub fn event_on_line(line: &[u8]) -> Result<Option<Event>, BadLine>
     }
 }
 
-/// The event of a name and the words behind it.
+/// The event of a name and the words after it.
 fn event_with(name: &[u8], rest: &[u8]) -> Option<Event>
     ensures found { IfSome result (λ event. WritesEvent event (name.now ∷ words_of rest.now)) }
     ensures none { result ≡ None → (event : Event) →

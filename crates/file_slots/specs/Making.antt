@@ -12,7 +12,7 @@ abbrev pub StopsAt : (List ℕ → Type 0) → FileName → FilesFault → Type 
 StopsAt refuses name (CannotMake named) = (named ≡ name) × refuses (file_name name.prefix.now name.number)
 StopsAt refuses name NoMemory = ⊤
 
--- `makes` tells under which names an open file may have been made anew, `refuses` which files it may be that can't be made
+-- `makes` says under which names an open file may have been made anew; `refuses` says which files may be those that can't be made
 module _ {F : Type 0} (makes : List ℕ → F → Type 0) where
   -- a slot of this number that was never used, in a file that was made under its name
   pub record IsMade (prefix : List ℕ) (number : ℕ) (slot : FileSlotValue F) : Type 0 where
@@ -33,7 +33,7 @@ module _ {F : Type 0} (makes : List ℕ → F → Type 0) where
     pub wanted : number < count
     pub refused : refuses (file_name prefix number)
 
-  -- why so many slots are not made: the first of their files that can't be, of which the fault tells; or want of memory
+  -- why so many slots are not made: the fault names the first of their files that can't be made; or there is not enough memory
   abbrev pub StopsMaking : (List ℕ → Type 0) → List ℕ → ℕ → FilesFault → Type 0
   StopsMaking refuses prefix count (CannotMake named) = (named.prefix.now ≡ prefix) × StopsBehind refuses prefix count named.number
   StopsMaking refuses prefix count NoMemory = ⊤

@@ -1,5 +1,5 @@
--- What the command that assembles a source does with what it is asked for. `gives` tells, of a name, the bytes that a file of it may be found
--- to hold, `accepts` of which bytes a file of it may be made.
+-- What the command that assembles a source does with its request. `gives` relates a name to the bytes that a file of that name may be found
+-- to hold. `accepts` relates a name to the bytes that a file of that name may be made of.
 use Rattle.std.specs.Prelude.{ℕ, List}
 use Rattle.command_line.specs.declared.request.AsmRequest.{AsmRequest}
 use Rattle.elf_image.specs.WrittenFiles.{elf_file}

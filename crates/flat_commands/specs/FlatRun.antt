@@ -1,5 +1,5 @@
--- What the command that runs an image on flat memory does with what it is asked for. `gives` tells, of a name, the bytes that a file of it may
--- be found to hold; `old` and `new` are what stands in the output before and after.
+-- What the command that runs an image on flat memory does with its request. `gives` relates a name to the bytes that a file of that name
+-- may be found to hold; `old` and `new` are the contents of the output before and after.
 use Rattle.std.specs.Prelude.{◌≡◌, ℕ, ◌≤◌, ◌<◌, List, Option, Some, IsSome, option_map}
 use Rattle.std.specs.Io.KnownBytes.{Appends}
 use Rattle.command_line.specs.declared.request.FlatRequest.{FlatRequest}

@@ -56,11 +56,11 @@ abbrev pub after_page : Option ImagePage → ℕ
 after_page None = 0
 after_page (Some listed) = (listed.number + 1) * 4096
 
--- where the break stands at first: after the highest page of the image, which is the last
+-- where the break is at first: after the highest page of the image, which is the last
 unfoldable pub first_break : List ImagePage → ℕ
 first_break pages = after_page (slice_get pages (length pages - 1))
 
--- what a process begins as: hart 0 alone, which stands at the entry, with its stack pointer and 0 in every other register
+-- what a process begins as: only hart 0, whose pc is the entry, with its stack pointer and 0 in every other register
 unfoldable pub opening : ImageContent → List ℕ → Process
 opening image input = record {
   harts = with_register (cleared image.entry) sp first_stack_pointer ∷ [];

@@ -1,4 +1,4 @@
--- A process as a value that proofs can tell from others.
+-- A process as a value that proofs can distinguish from others.
 use Rattle.std.specs.Prelude.{List, Option, refl}
 use Rattle.std.specs.Coded.{Coded, code_by, coded×, coded_option, coded_list}
 use Rattle.page_memory.specs.Memory.{Memory}

@@ -6,7 +6,7 @@ use Rattle.env_calls.specs.declared.stepping.Stepped.TheVariants as stepped
 use Rattle.flat_machine.specs.declared.end.End.{End}
 use Rattle.flat_machine.specs.declared.end.End.TheVariants.{Exited, Trapped}
 
--- a new hart is behind the others
+-- a new hart comes after the others
 abbrev pub harts_after : Stepped → List Registers → List Registers
 harts_after stepped.Ran harts = harts
 harts_after stepped.Yielded harts = harts

@@ -21,7 +21,7 @@ pub struct OutOfMemory {
 
 impl FlatProcess {
     /// Steps the harts by turns until the process has ended or the limit is reached, and reports how many
-    /// steps that took. Where memory is wanting, the steps before remain.
+    /// steps that took. Where there is not enough memory, the earlier steps remain.
     ///
     /// At first it is the turn of hart 0, or where that is not live of the least live one; after a step of
     /// a hart, of the least live one above it, else of the least live one.
@@ -38,7 +38,7 @@ impl FlatProcess {
     }
 
     /// Steps the hart whose turn it is, which is live, then the next, until the process has ended or so many steps are done,
-    /// and reports how many that was. Where memory is wanting, the steps before remain.
+    /// and reports how many that was. Where there is not enough memory, the earlier steps remain.
     pub fn run_turns(&mut self, turn: &mut u32, most: u64) -> Result<u64, OutOfMemory>
         requires live { is_live turn.old self.old ≡ true }
         ensures ran { IfOk result (λ steps.

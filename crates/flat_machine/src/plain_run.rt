@@ -21,7 +21,7 @@ const MOST: u32 = 0x4000_0000;
 /// How many instructions are run by their words where the next one is in no decoded page.
 const UNDECODED: u64 = 256;
 
-/// Runs the next instructions of the hart of a number, up to so many, until one calls or traps, and tells where they stopped.
+/// Runs the next instructions of a hart, given by number, up to so many, until one calls or traps. Reports where they stopped.
 /// The one that calls or traps has changed nothing.
 #[inline(always)]
 pub(crate) fn run_plainly(

@@ -59,7 +59,7 @@ impl FlatProcess {
     }
 
     /// Runs one instruction of a hart that may step, and answers whether the process goes on with the
-    /// same harts live. Where memory is wanting, nothing has changed.
+    /// same harts live. Where there is not enough memory, nothing has changed.
     #[inline]
     pub(crate) fn step_live(&mut self, hart: u32) -> Result<bool, AllocError>
         requires { may_step hart self.old ≡ true }

@@ -18,8 +18,8 @@ const SLOTS: u32 = 4096;
 /// How many instructions of a hart come before the next hart's turn.
 const SLICE: u32 = 1000;
 
-/// Runs an image on an input, on a machine of so many frames, until it has ended or so many steps are done; writes its output, and
-/// tells its ending and how many steps it took.
+/// Runs an image on an input, on a machine of so many frames, until it has ended or so many steps are done. Writes its output, and
+/// returns its ending and how many steps it took.
 pub(crate) fn run_on_frames<'a, W: Write>(
     alloc: Global,
     frames: u32,

@@ -1,4 +1,4 @@
--- Checkpoints: where they stand on a path, and which of them stay.
+-- Checkpoints: where they are on a path, and which of them stay.
 use Rattle.std.specs.Prelude.{◌≡◌, ℕ, ◌<◌, ◌≤◌, nat_le, Bool, List, Some, All}
 use Rattle.flat_machine.specs.Process.{opening}
 use Rattle.run_paths.specs.Paths.{along, first_place, HasTurn}

@@ -31,7 +31,7 @@ pub record IsReplied (line : List ℕ) (old : History) (told : List ℕ) (new : 
   pub keeps : Keeps after new
   pub told_is : told ≡ history_text reply ++ 10 ∷ []
 
--- what is told of a line, and what the debugger is after it
+-- the text that answers a line, and what the debugger is after it
 abbrev pub IsAnswered : List ℕ → History → List ℕ → History → Type 0
 IsAnswered line old told new = (IsRemark line × ((told ≡ []) × (new ≡ old))) ⊎ IsReplied line old told new
 
@@ -41,7 +41,7 @@ AreAnswered [] old told new = (told ≡ []) × (new ≡ old)
 AreAnswered (line ∷ lines) old told new = (now : History) × ((first : List ℕ) × ((others : List ℕ) ×
     IsAnswered line old first now × AreAnswered lines now others new × (told ≡ first ++ others)))
 
--- a line is skipped or answered, and what is told is written; or it is `quit`; or it is bad
+-- a line is skipped or answered, and the answer is written; or it is `quit`; or it is bad
 abbrev pub TakesTurn : Turn → List ℕ → History → Option (List ℕ) → History → Option (List ℕ) → Type 0
 TakesTurn GoesOn line old written new wrote = (told : List ℕ) × IsAnswered line old told new × Appends written wrote told
 TakesTurn Quits line old written new wrote = AsksOf (Plain Quit) line × (new ≡ old) × Appends written wrote []
@@ -63,7 +63,7 @@ Ends (Err CannotRead) above below = ⊤
 Ends (Err CannotWrite) above below = ⊤
 Ends (Err (Run why)) above below = ⊤
 
--- what was told stands behind what was written before, unless a later line was broken off
+-- the answers follow what was written before, unless a later line was broken off
 abbrev pub IsWritten : Result (Unit {0}) HistoryFault → Option (List ℕ) → List ℕ → Option (List ℕ) → Type 0
 IsWritten (Ok done) written told wrote = Appends written wrote told
 IsWritten (Err (BadLine number)) written told wrote = Appends written wrote told
@@ -79,8 +79,8 @@ IsLeft (Err CannotRead) after new = new ≡ after
 IsLeft (Err CannotWrite) after new = ⊤
 IsLeft (Err (Run why)) after new = ⊤
 
--- Some lines were answered, one after another, and what was told is written. Where the input's bytes are known, these are the first of
--- its lines, and below them stands `quit`, or nothing, or the bad line whose number is told.
+-- Some lines were answered, one after another, and the answers are written. Where the input's bytes are known, these are the first of
+-- its lines; what follows them is `quit`, or nothing, or the bad line whose number is reported.
 pub record HasConversed (result : Result (Unit {0}) HistoryFault) (input : Option (List ℕ)) (old : History) (written : Option (List ℕ))
     (new : History) (wrote : Option (List ℕ)) : Type 0 where
   pub lines : List (List ℕ)

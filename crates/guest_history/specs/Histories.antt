@@ -1,4 +1,4 @@
--- A debugger that knows its steps: where it stands, and where it goes back to.
+-- A debugger that knows its steps: where it is, and where it goes back to.
 use Rattle.std.specs.Prelude.{◌≡◌, ℕ, zero, suc, ◌+◌, ◌-◌, ◌^◌, ◌<◌, ◌≤◌, ⊤, nat_le, Bool, true, false, List, [], ◌∷◌, Option, Some, None, if◌then◌else◌}
 use Rattle.flat_machine.specs.Process.{Process}
 use Rattle.debug_core.specs.Debugging.{DebuggerValue}
@@ -40,7 +40,7 @@ pub record Stands (history : History) : Type 0 where
   pub ranged : ArePoints history.points
   pub kept : AreKept history.program history.path.stretches.items history.path.total history.checkpoints
 
--- it stands before the first step of a program on a path
+-- it is before the first step of a program on a path
 pub record Begins (program : Program) (path : List Stretch) (is_recorded : Bool) (history : History) : Type 0 where
   pub stands : Stands history
   pub program_is : history.program ≡ program
@@ -48,7 +48,7 @@ pub record Begins (program : Program) (path : List Stretch) (is_recorded : Bool)
   pub recorded : history.is_recorded ≡ is_recorded
   pub none : history.done ≡ 0
 
--- why no debugger begins by turns: memory is wanting, or they have too many steps
+-- why no debugger begins by turns: there is not enough memory, or they have too many steps
 abbrev pub RefusesTurns : List Turn → RunFault → Type 0
 RefusesTurns turns NoMemory = ⊤
 RefusesTurns turns OtherRun = 2 ^ 64 ≤ steps_of (path_of turns)
@@ -57,7 +57,7 @@ RefusesTurns turns OtherRun = 2 ^ 64 ≤ steps_of (path_of turns)
 abbrev pub Keeps : History → History → Type 0
 Keeps old new = new ≡ record old { checkpoints = new.checkpoints }
 
--- It stands behind so many of the same steps, and has the same points.
+-- It is after so many of the same steps, and has the same points.
 pub record GoesBackTo (done : ℕ) (old new : History) : Type 0 where
   pub stands : Stands new
   pub done_is : new.done ≡ done
@@ -71,17 +71,17 @@ abbrev pub GoesBackBy : ℕ → History → Bool → History → Type 0
 GoesBackBy count old true new = (count ≤ old.done) × GoesBackTo (old.done - count) old new
 GoesBackBy count old false new = (old.done < count) × (new ≡ old)
 
--- why a run along the path stops behind so many steps, by the points and by the reasons of a debugger
+-- why a run along the path stops after so many steps, by the points and by the reasons of a debugger
 abbrev pub stops_at : History → ℕ → Option Why
 stops_at history = met_at history.points history.path.stretches.items (beginning history.program)
 
--- It stands at the last place before at which a run stops, for this reason; or at the beginning, where there is none.
+-- It is at the last earlier place at which a run stops, for this reason; or at the beginning, where there is no such place.
 abbrev pub StopsBefore : History → Option Why → History → Type 0
 StopsBefore old None new = (new.done ≡ 0) × ((i : ℕ) → i < old.done → stops_at old i ≡ None)
 StopsBefore old (Some why) new =
     (new.done < old.done) × ((stops_at old new.done ≡ Some why) × ((i : ℕ) → new.done < i → i < old.done → stops_at old i ≡ None))
 
--- The same, no more than so many steps back: where a run stops nowhere among these, it stands before them, at a limit or at the beginning.
+-- The same, no more than so many steps back. Where a run stops nowhere among these, it is before them, at a limit or at the beginning.
 abbrev pub StopsWithin : ℕ → History → Looked → History → Type 0
 StopsWithin count old (looked.Met why) new = (old.done ≤ new.done + count) × StopsBefore old (Some why) new
 StopsWithin count old looked.Limit new =
@@ -98,7 +98,7 @@ abbrev pub ends_look : ℕ → Looked
 ends_look zero = looked.Beginning
 ends_look (suc low) = looked.Limit
 
--- a process behind no more than so many of the known steps
+-- a process after no more than so many of the known steps
 pub record IsNear (history : History) (step : ℕ) (near : Checkpoint) : Type 0 where
   pub led : along history.path.stretches.items near.done (beginning history.program) ≡ Some near.place
   pub live : HasTurn near.place

@@ -273,7 +273,7 @@ fn last_of(stretch: Stretch, steps: u64, before: u32) -> u32
     next_hart(Some(stretch.whose), 0)
 }
 
-/// Whether a run by a record stops, of which a turn came to this: at a break stands the hart that has the next step.
+/// Whether a run by a record stops, where one of its turns came to this. A break stops it only where the hart at it has the next step.
 fn stops(why: Why, steps: u64, stretch: Stretch) -> bool
     ensures no { result ≡ false → EndsTurn why × (stretch.count ≤ steps) }
     ensures yes { result ≡ true → EndsTurn why → steps < stretch.count }

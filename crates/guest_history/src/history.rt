@@ -202,7 +202,7 @@ impl History {
         Ok(behind(met, from))
     }
 
-    /// Stands behind so many of the known steps.
+    /// Moves to the place after so many of the known steps.
     pub(crate) fn stand_at(&mut self, alloc: Global, step: u64) -> Result<(), RunFault>
         requires stands { Stands self.old }
         requires known { step ≤ self.old.path.total }
@@ -215,7 +215,7 @@ impl History {
         Ok(())
     }
 
-    /// A debugger with no points behind so many of the known steps.
+    /// A debugger with no points after so many of the known steps.
     fn debugger_at(&self, alloc: Global, step: u64) -> Result<Debugger<FlatProcess>, RunFault>
         requires stands { Stands self.now }
         requires known { step ≤ self.now.path.total }
@@ -234,7 +234,7 @@ impl History {
         Ok(debugger)
     }
 
-    /// The process behind so many of the known steps.
+    /// The process after so many of the known steps.
     fn place_at(&self, alloc: Global, step: u64) -> Result<Place, RunFault>
         requires stands { Stands self.now }
         requires known { step ≤ self.now.path.total }
@@ -264,7 +264,7 @@ impl History {
         }
     }
 
-    /// Keeps a checkpoint here, if one is due. Where memory is wanting, there is none.
+    /// Keeps a checkpoint here, if one is due. Where there is not enough memory, it keeps none.
     pub(crate) fn keep(&mut self, alloc: Global)
         requires stands { Stands self.old }
         ensures stands { Stands self.new }
@@ -290,7 +290,7 @@ impl History {
         })
     }
 
-    /// Notes that so many steps were taken: the debugger stands behind them.
+    /// Notes that so many steps were taken. The debugger is at the place after them.
     pub(crate) fn note(&mut self, alloc: Global, whose: Whose, count: u64) -> Result<(), RunFault>
         requires moved { Moves self.old whose count }
         requires small { self.old.done + count < 2 ^ 64 }

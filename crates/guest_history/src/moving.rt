@@ -1,4 +1,4 @@
-//! Steps of a debugger on flat memory, told as steps of a path.
+//! Steps of a debugger on flat memory, given as steps of a path.
 
 ghost use Rattle.std.specs.Prelude.{◌≡◌, ◌≤◌, ◌∷◌, [], Some, IfOk, OnErr, OnOk};
 ghost use Rattle.debug_core.specs.Debugging.{first_moment, lone_moment, turn_left};

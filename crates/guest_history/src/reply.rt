@@ -25,7 +25,7 @@ pub(crate) enum HistoryReply {
         done: u64,
         total: u64,
     },
-    /// The record has no more steps, behind so many of the run.
+    /// The record has no more steps, after so many of the run.
     RecordEnds {
         steps: u64,
     },

@@ -21,7 +21,7 @@ pub fn status_of(end: End) -> u8
     }
 }
 
-/// Tells how a guest ended that did not end itself. Where that can't be written, the status alone tells it.
+/// Prints how a guest ended that did not end itself. If this can't be written, only the status shows it.
 pub fn tell_end<E: Write>(end: End, steps: u64, err: &mut E)
     ensures quiet { (status : ℕ) → end ≡ Exited status → err.new ≡ err.old }
 {

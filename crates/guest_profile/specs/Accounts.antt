@@ -31,7 +31,7 @@ pub record Account : Type 0 where
 abbrev pub nothing : Account
 nothing = record { insns = λ at. None; calls = λ site. None; pages = λ page. None; harts = replicate 8 no_calls }
 
--- whether a hart goes on elsewhere than behind its instruction
+-- whether a hart goes on elsewhere than at the instruction after this one
 abbrev pub is_taken : ToldStep → Bool
 is_taken told = not (told.after.pc == next_pc told.before)
 
@@ -47,7 +47,7 @@ step_jump step told = record { site = told.before.pc; target = told.after.pc; sp
 abbrev pub insns_after : ToldStep → ℕ → List HartCalls → ℕ → Option InsnTally → Option InsnTally
 insns_after told word harts at tally = counted told.before.pc word (is_taken told) (hart_level (slice_get harts told.hart) == 2) at tally
 
--- A step of the instruction that the word is. A word that is none counts alone: its step is a trap.
+-- A step of the instruction that the word is. Of a word that is no instruction only the word is counted: its step is a trap.
 abbrev pub after_insn : Option Insn → ℕ → ToldStep → Account → Account
 after_insn None word told account =
     record { insns = λ at. insns_after told word account.harts at (account.insns at); calls = account.calls; pages = account.pages; harts = account.harts }

@@ -73,7 +73,7 @@ no_calls = record { pending = []; done = nothing }
 abbrev pub stepped : Sums → HartCalls → HartCalls
 stepped step hart = record { pending = hart.pending; done = both hart.done step }
 
--- whether a pending call is one that is sought: an address is the one behind it; it is of this callee; it was made at this stack pointer or
+-- whether a pending call is one that is sought: an address is the one after it; it is of this callee; it was made at this stack pointer or
 -- above it; it was made above it
 abbrev pub is_sought : Sought → PendingCall → Bool
 is_sought (Behind address) one = (one.call.site + 4) % 2 ^ 32 == address
@@ -142,7 +142,7 @@ cut place hart = record { pending = take place hart.pending; done = hart.done }
 abbrev pub ended_from : ℕ → HartCalls → CallSite → Option CallCount → Option CallCount
 ended_from place hart site count = ended hart.done (drop place hart.pending) site count
 
--- A call that was made at a lower stack pointer than the hart's is over: the hart has left it, as longjmp does. So are all calls behind the
+-- A call that was made at a lower stack pointer than the hart's is over: the hart has left it, as longjmp does. So are all calls after the
 -- last one that was made at this stack pointer or above it.
 abbrev pub place_left : ℕ → HartCalls → ℕ
 place_left sp hart = held (HeldAt sp) hart.pending
@@ -151,7 +151,7 @@ abbrev pub unwound : ℕ → HartCalls → HartCalls
 unwound sp hart = cut (place_left sp hart) hart
 
 -- To return to an address is to return from the last pending call before that address, and from all that were made since. Where it is
--- behind no pending call, the hart comes back elsewhere: then it has left all calls that were made at its stack pointer or below it.
+-- after no pending call, the hart comes back elsewhere: then it has left all calls that were made at its stack pointer or below it.
 abbrev pub return_place : ℕ → ℕ → List PendingCall → ℕ
 return_place address sp pending = unwrap_or (last_sought (Behind address) pending) (held (HeldAbove sp) pending)
 

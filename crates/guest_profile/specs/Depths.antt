@@ -1,4 +1,4 @@
--- How deep in calls harts stand.
+-- How deep in calls harts are.
 use Rattle.std.specs.Prelude.{List, map, replicate}
 use Rattle.guest_steps.specs.declared.flow.Flow.{Flow}
 use Rattle.guest_steps.specs.declared.told_step.ToldStep.{ToldStep}

@@ -11,7 +11,7 @@ accesses steps loads stores = record { steps = steps; loads = loads; stores = st
 abbrev pub nothing : Sums
 nothing = accesses 0 0 0
 
--- of an instruction that ran so often, and went on elsewhere than behind it so often; an atomic operation loads and stores
+-- of an instruction that ran so often, and so often went on elsewhere than at the next one; an atomic operation loads and stores
 abbrev pub sums_of : Insn → ℕ → ℕ → Sums
 sums_of (Load kind rd rs1 offset) steps taken = accesses steps steps 0
 sums_of (LoadReserved acquire release rd rs1) steps taken = accesses steps steps 0
@@ -21,7 +21,7 @@ sums_of (Amo kind acquire release rd rs1 rs2) steps taken = accesses steps steps
 sums_of (Branch kind rs1 rs2 offset) steps taken = record { steps = steps; loads = 0; stores = 0; branches = steps; taken = taken }
 sums_of _ steps taken = accesses steps 0 0
 
--- of one step, after which its hart went on elsewhere than behind the instruction, or not
+-- of one step, where its hart went on elsewhere than at the next instruction, or not
 abbrev pub step_of : Insn → Bool → Sums
 step_of insn is_taken = sums_of insn 1 (if is_taken then 1 else 0)
 

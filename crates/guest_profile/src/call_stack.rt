@@ -30,7 +30,7 @@ pub(crate) struct PendingCall {
 /// What is sought among calls.
 #[derive(Clone, Copy, Debug)]
 pub(crate) enum Sought {
-    /// The call behind which this address is.
+    /// The call that this address directly follows.
     Behind(u32),
     /// A call of this callee.
     To(u32),

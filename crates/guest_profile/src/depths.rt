@@ -1,4 +1,4 @@
-//! How deep in calls harts stand.
+//! How deep in calls harts are.
 
 ghost use Rattle.std.specs.Prelude.{◌≡◌, IfOk, OnOk, slice_get};
 ghost use Rattle.guest_profile.specs.Calls.{hart_depth};

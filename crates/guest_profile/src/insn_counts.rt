@@ -15,11 +15,11 @@ use std::collections::HashMap;
 pub struct InsnTally {
     /// How often it ran.
     pub steps: u64,
-    /// How often the program went on elsewhere than behind it.
+    /// How often the program went on elsewhere than at the instruction after it.
     pub taken: u64,
     /// How often it ran within a call of level 2.
     pub inner_steps: u64,
-    /// How often the program went on elsewhere than behind it then.
+    /// How often the program then went on elsewhere than at the instruction after it.
     pub inner_taken: u64,
     /// Its word, as it was when it ran first.
     pub word: u32,

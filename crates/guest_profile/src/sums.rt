@@ -26,7 +26,7 @@ pub const NOTHING: Sums = Sums {
 };
 
 impl Sums {
-    /// Of an instruction that ran so often, and went on elsewhere than behind it so often.
+    /// Of an instruction that ran so often, and so often went on elsewhere than at the instruction after it.
     pub fn of(insn: Insn, steps: u64, taken: u64) -> Self
         ensures { result ≡ sums_of insn steps taken }
     {
@@ -47,7 +47,7 @@ impl Sums {
         }
     }
 
-    /// Of one step of an instruction, after which its hart went on elsewhere than behind it, or not.
+    /// Of one step of an instruction, where its hart went on elsewhere than at the instruction after it, or not.
     pub(crate) fn of_step(insn: Insn, is_taken: bool) -> Self
         ensures { result ≡ step_of insn is_taken }
     {

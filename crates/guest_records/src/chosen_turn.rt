@@ -15,7 +15,7 @@ pub(crate) struct ChosenTurn {
     pub(crate) hart: u32,
     /// The most instructions of it.
     pub(crate) most: u32,
-    /// Whether it ends before a yield, and behind the start of a hart.
+    /// Whether it ends before a yield, and after the start of a hart.
     pub(crate) is_cut: bool,
 }
 
@@ -27,7 +27,7 @@ pub(crate) enum Chooser {
 }
 
 impl Chooser {
-    /// What is chosen depends on the way and the seed alone, and on the process.
+    /// What is chosen depends only on the way, the seed and the process.
     pub(crate) fn new(alloc: Global, way: Way, seed: u64) -> Result<Self, AllocError> {
         match way {
             Way::Turns => Ok(Chooser::Turns(RandomTurns::new(seed))),

@@ -1,4 +1,4 @@
-//! A run by a schedule that is chosen at random, told as a record.
+//! A run by a schedule that is chosen at random, reported as a record.
 
 ghost use Rattle.std.specs.Prelude.{◌≡◌, None, Some, IfOk, IfSome};
 ghost use Rattle.flat_machine.specs.Process.{Process, opening};
@@ -18,8 +18,8 @@ use flat_machine::{End, FlatProcess, Schedule};
 use run_records::{Closing, Fingerprint, Record, know_fitting, take_fingerprint};
 use std::alloc::{AllocError, Global};
 
-/// Runs an image on an input by turns that a seed chooses in such a way, up to so many steps, and tells the run as a record: it names the file of the
-/// image by its fingerprint, and replays. There is none of a run that lacks memory for a step.
+/// Runs an image on an input, up to so many steps, and returns the run as a record. A seed chooses the turns in the given way.
+/// The record names the image's file by its fingerprint, and replays. A run that lacks memory for a step has no record.
 pub fn explore_run(
     alloc: Global,
     image: &Image,

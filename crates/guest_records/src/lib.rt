@@ -1,4 +1,4 @@
-//! Runs of a program by schedules that are chosen at random, each told as a record that replays.
+//! Runs of a program by schedules that are chosen at random, each reported as a record that replays.
 #![tactic(auto)]
 
 mod chosen_run;

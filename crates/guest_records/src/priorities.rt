@@ -42,13 +42,13 @@ pub(crate) struct Priorities {
     lowest: u64,
     /// The most steps of a hart in a row.
     patience: u64,
-    /// Whose turn it is, and behind how many steps it began.
+    /// Whose turn it is, and after how many steps it began.
     hart: u32,
     begun: u64,
 }
 
 impl Priorities {
-    /// What is chosen depends on these and the process alone.
+    /// What is chosen depends only on these and the process.
     pub(crate) fn new(
         alloc: Global,
         depth: u32,
@@ -96,7 +96,7 @@ impl Priorities {
         }
     }
 
-    /// Makes the changes that are behind so many steps.
+    /// Makes the changes that are due after so many steps.
     fn change(&mut self, process: &FlatProcess, done: u64) {
         let mut given = CHANGED;
         for behind in self.changes.as_slice() {

@@ -23,7 +23,7 @@ pub(crate) struct RandomTurns {
 }
 
 impl RandomTurns {
-    /// What is chosen depends on the seed alone.
+    /// What is chosen depends only on the seed.
     pub(crate) fn new(seed: u64) -> Self {
         RandomTurns {
             generator: Pcg32::new(seed, 0),

@@ -25,7 +25,7 @@ pub struct RunSize {
     /// How many harts were started.
     pub harts: u32,
     pub steps: u64,
-    /// Whether a run ended by itself with so many steps. Otherwise none was found that ends, and nothing new came behind them.
+    /// Whether a run ended by itself with so many steps. Otherwise none was found that ends, and nothing new came after them.
     pub has_ended: bool,
 }
 
@@ -171,7 +171,7 @@ fn measure_new(
     })
 }
 
-/// Runs a process by turns of one instruction, so many at most. Answers behind how many the last new one was done.
+/// Runs a process by turns of one instruction, so many at most. Returns after how many steps the last new one was done.
 fn count_to_last_new(
     alloc: Global,
     process: &mut FlatProcess,

@@ -85,7 +85,7 @@ pub(crate) struct LoopWatch {
     noted: Option<Regs>,
 }
 
-/// A hart is watched for so many steps, again and again behind so many.
+/// A hart is watched for so many steps. The next constant is the number of steps from the start of one watch to the next.
 const WATCHED: u32 = 64;
 
 const BETWEEN: u32 = 256;

@@ -8,7 +8,7 @@ use rv_isa::{Insn, Reg};
 /// What an instruction is for the flow of a program, by the calling convention: x1 and x5 hold return addresses.
 #[derive(Clone, Copy, Debug, PartialEq, Eq)]
 pub enum Flow {
-    /// It jumps and keeps the address behind it.
+    /// It jumps and keeps the address after it.
     Call,
     /// It jumps to an address that was kept.
     Return,

@@ -8,7 +8,7 @@ use crate::told_step::ToldStep;
 use flat_machine::{FlatProcess, StepRefusal};
 use rv_exec::Regs;
 
-/// Runs one instruction of a hart, and tells of it. A trap is a step too; a refusal changes nothing.
+/// Runs one instruction of a hart, and reports it. A trap is a step too; a refusal changes nothing.
 pub(crate) fn step(process: &mut FlatProcess, hart: u32) -> Result<ToldStep, StepRefusal>
     ensures told { IfOk result (λ step. TellsStep step hart process.old process.new) }
     ensures refused { IfErr result (λ refusal. RefusesStep refusal hart process.old) }

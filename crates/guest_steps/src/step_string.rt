@@ -46,7 +46,7 @@ impl StepString {
         }
     }
 
-    /// Does the next step, and tells of it; `None` where the process has ended or no more steps may be done.
+    /// Does the next step, and reports it; `None` where the process has ended or no more steps may be done.
     ///
     /// # Errors
     ///

@@ -1,4 +1,4 @@
-//! What is told of a step.
+//! The report of a step.
 
 use page_memory::MemoryFault;
 use rv_exec::Regs;

@@ -30,7 +30,7 @@ references_of number hart process = step_references number hart process.memory (
 abbrev pub of_fetch : Reference → Reference
 of_fetch reference = record { page = reference.page; is_written = false }
 
--- what is kept of what a step refers to: all of it, the page of its instruction alone, which is the first, or that of its data alone
+-- what is kept of a step's references: all of them, only the page of its instruction, which is the first, or only that of its data
 abbrev pub kept : AccessKinds → List Reference → List Reference
 kept All references = references
 kept Instructions references = map of_fetch (take 1 references)

@@ -12,9 +12,9 @@ use crate::step_use::StepUse;
 pub enum AccessKinds {
     /// To its own page, and to that of its data.
     All,
-    /// To its own page alone.
+    /// Only to its own page.
     Instructions,
-    /// To the page of its data alone, or of the call that it makes.
+    /// Only to the page of its data, or of the call that it makes.
     Data,
 }
 

@@ -36,7 +36,7 @@ impl Round {
         }
     }
 
-    /// Runs the next instruction, and tells what is kept of what it refers to. There is none once no hart may step, or as many have run as may.
+    /// Runs the next instruction, and returns what is kept of its references. There is none once no hart may step, or the limit is reached.
     pub(crate) fn step(&mut self) -> Result<Option<StepUse>, AllocError>
         ensures told { IfOk result (λ step. uses_to_come self.old ≡ told_by step ++
             uses_to_come self.new) }

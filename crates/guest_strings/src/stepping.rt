@@ -25,8 +25,8 @@ const NO_USE: StepUse = StepUse {
     yields: false,
 };
 
-/// Runs the next instruction of a place's hart, where it may step, and tells what is kept of what it refers to. Where memory is
-/// wanting, nothing has changed.
+/// Runs the next instruction of a place's hart, where it may step, and returns what is kept of its references. Where there is not
+/// enough memory, nothing has changed.
 #[tactic(auto, using(crate::proofs::Keeping::kept_none))]
 pub(crate) fn step_at(
     processes: &mut [FlatProcess],

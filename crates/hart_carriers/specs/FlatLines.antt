@@ -1,4 +1,4 @@
--- What is reported of each process, by the flat run that it stands for.
+-- What is reported of each process, by the flat run that it represents.
 use Rattle.std.specs.Prelude.{◌≡◌, ℕ, List, Vec, length, map, Some, slice_get}
 use Rattle.elf_image.specs.Image.{ImageContent}
 use Rattle.elf_image.specs.Start.{Start, start_of}

@@ -125,7 +125,7 @@ fn cleans_of<L: Ledger, S: SwapSlot>(processes: &[Held<L, S>]) -> u64
     cleans
 }
 
-/// For the proof only: each process stands for the flat run of its schedule.
+/// For the proof only: each process represents the flat run of its schedule.
 fn all_stand<L: Ledger, S: SwapSlot>(processes: &[Held<L, S>])
     ensures { S.honest → All (λ h. StandsFor S.content h.side) processes.now }
 {

@@ -1,4 +1,4 @@
--- What an audit of what stands under the locks looks for.
+-- What an audit of what the locks protect looks for.
 use Rattle.std.specs.Prelude.{◌≡◌, true, List, map}
 use Rattle.machine_sides.specs.Auditing as sides
 use Rattle.machine_sides.specs.Auditing.{AreSound}
@@ -13,7 +13,7 @@ pub record HoldsAll (desk : DeskValue) (found : HeldPages) : Type 0 where
   pub counted : sides.HoldsAll desk.pager.pager found
 
 module _ {S : Type 0} where
-  -- a process without what stands beside it under its lock
+  -- a process without the other values that its lock protects
   abbrev pub space_in : HeldValue S → SpaceValue S
   space_in held = held.side
 

@@ -1,4 +1,4 @@
--- What stands under the pager's lock.
+-- What the pager's lock protects.
 use Rattle.std.specs.Prelude.{ℕ, ◌/◌, Bool, max}
 use Rattle.machine_sides.specs.Sides.{PagerSideValue}
 

@@ -1,4 +1,4 @@
--- What stands under a process's lock, and the pair that is published of it.
+-- What a process's lock protects, and the pair that is published of it.
 use Rattle.std.specs.Prelude.{ℕ, Bool, true, false, length, Option}
 use Rattle.flat_machine.specs.Schedule.{written_out}
 use Rattle.pager_core.specs.Pager.{tallied}

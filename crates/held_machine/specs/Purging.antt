@@ -19,7 +19,7 @@ module _ {S : Type 0} (number : ℕ) (desk desk' : DeskValue) (held held' : Held
   PurgesHeld (Some result) =
       Answers number desk desk' held held' held.tries desk.sound (Purges desk.pager desk'.pager held.side held'.side slots slots' result)
 
--- what stands under all locks of a machine: the pager, its processes by rising number, and the free slots
+-- what all locks of a machine protect: the pager, its processes by rising number, and the free slots
 pub record StandingValue (S : Type 0) : Type 0 where
   pub desk : DeskValue
   pub held : List (HeldValue S)

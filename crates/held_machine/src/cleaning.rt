@@ -1,4 +1,4 @@
-//! The cleaning of pages of what stands under a process's lock.
+//! The cleaning of pages of what a process's lock protects.
 
 ghost use Rattle.std.specs.Prelude.{◌≡◌};
 ghost use Rattle.paged_memory.specs.Paged.{memory_of};

@@ -1,4 +1,4 @@
-//! What stands under the pager's lock, and the calls on it and a process together.
+//! What the pager's lock protects, and the calls on it and a process together.
 
 ghost use Rattle.std.specs.Prelude.{◌≡◌, ◌⊎◌, ◌↔◌, ◌<◌, ◌+◌, ◌&&◌, nat_lt, false};
 ghost use Rattle.std.specs.Prelude.{true, length, IfOk, IsErrOf};

@@ -1,4 +1,4 @@
-//! What stands under a process's lock.
+//! What a process's lock protects.
 
 ghost use Rattle.std.specs.Prelude.{◌≡◌, ◌+◌, IfOk, IfErr, OnOk, OnErr, length, None, Some};
 ghost use Rattle.flat_machine.specs.Schedule.{written_out};
@@ -98,8 +98,8 @@ impl<L: Ledger, S: SwapSlot> Held<L, S> {
         ))
     }
 
-    /// What holds each time the lock is taken: the process stands for the flat run of its schedule, and what was published last
-    /// is how far it has come. It does nothing.
+    /// What holds each time the lock is taken. The process represents the flat run of its schedule. What was published last
+    /// is how far it has come. The call does nothing.
     pub fn coherent(&self)
         ensures stands { S.honest → StandsFor S.content self.now.side }
         ensures published { self.now.writer.last ≡ status_of self.now.side }

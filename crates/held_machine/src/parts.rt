@@ -1,4 +1,4 @@
-//! What stood under the locks of a machine, once no other thread has it.
+//! What the locks of a machine protected, once no other thread has it.
 
 ghost use Rattle.std.specs.Prelude.{◌≡◌, ◌≤◌, vec_len};
 ghost use Rattle.machine_limits.specs.Limits.{most_processes};

@@ -1,4 +1,4 @@
--- Why the bytes of a file are no image. Each fault is told by its number, and with the name of the file.
+-- Why the bytes of a file are no image. Each fault is reported by its number, and with the name of the file.
 use Rattle.std.specs.Prelude.{◌≡◌, ◌≢◌, ℕ, ◌<◌, ⊤, List, [], length, Some}
 use Rattle.std.specs.Str.{IsUtf8}
 use Rattle.asm_lines.specs.Faults.{fault_number as kind_number}
@@ -14,7 +14,7 @@ use Rattle.image_files.specs.WordsFile.{IsWordsFile, words_in}
 use Rattle.image_files.specs.declared.fault.Fault.{Fault}
 use Rattle.image_files.specs.declared.fault.Fault.TheVariants as fault
 
--- an ELF file has this fault; or memory is wanting, for which a fault of its headers is not hidden
+-- an ELF file has this fault; or there is not enough memory, and its headers have no other fault
 abbrev pub HasElfFault : List ℕ → List ℕ → Fault → Type 0
 HasElfFault name file (fault.ElfFault named number) = (named.now ≡ name) × ((elf : ElfFault) × ((file_fault file ≡ Some elf) × (number ≡ fault_number elf)))
 HasElfFault name file fault.NoMemory = (elf : ElfFault) → elf ≢ NoMemory → ¬ (early_fault file ≡ Some elf)
@@ -26,7 +26,7 @@ IsFaultOfWords words TooLarge = most_words < length words
 IsFaultOfWords words EntryNotExecutable = words ≡ []
 IsFaultOfWords words _ = ⊥
 
--- the lines of a file are not words, or these are no image; or memory is wanting
+-- the lines of a file are not words, or the words are no image; or there is not enough memory
 abbrev pub HasWordsFault : List ℕ → List ℕ → Fault → Type 0
 HasWordsFault name file (fault.BadWords named) = (named.now ≡ name) × (¬ IsWordsFile file)
 HasWordsFault name file (fault.ElfFault named number) =
@@ -39,7 +39,7 @@ abbrev pub IsNoText : List ℕ → List ℕ → Fault → Type 0
 IsNoText name file (fault.CannotRead named) = (named.now ≡ name) × (¬ IsUtf8 file)
 IsNoText name file _ = ⊥
 
--- a source is no text, or has this first fault; or memory is wanting
+-- a source is no text, or has this first fault; or there is not enough memory
 abbrev pub HasSourceFault : List ℕ → List ℕ → Fault → Type 0
 HasSourceFault name file (fault.CannotRead named) = (named.now ≡ name) × (¬ IsUtf8 file)
 HasSourceFault name file (fault.Source named line number) = (named.now ≡ name) × ((kind : FaultKind) × (FirstFault file line kind × (number ≡ kind_number kind)))

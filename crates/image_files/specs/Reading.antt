@@ -38,7 +38,7 @@ pub record HoldsImage (file : List ℕ) (image : ImageContent) : Type 0 where
   pub words : (¬ BeginsAsElf file) → BeginsAsWords file → IsWordsImage file image
   pub source : (¬ BeginsAsElf file) → (¬ BeginsAsWords file) → IsSourceImage file image
 
--- `gives` tells, of a name, the bytes that a file of it may be found to hold
+-- `gives` says, of a name, which bytes a file of that name may be found to hold
 module _ (gives : List ℕ → List ℕ → Type 0) where
   -- the image of such bytes
   pub record GivesImage (name : List ℕ) (image : ImageContent) : Type 0 where

@@ -1,5 +1,5 @@
--- Why what is asked for of files can't be had. `gives` tells, of a name, the bytes that a file of it may be found to hold, `withholds`
--- whether it may be found that it can't be read.
+-- Why files don't give what is asked for. `gives` says, of a name, which bytes a file of that name may be found to hold. `withholds`
+-- says whether such a file may be found unreadable.
 use Rattle.std.specs.Prelude.{◌≡◌, ◌⊎◌, ◌++◌, ℕ, List, ◌∷◌, Option, None, Some}
 use Rattle.elf_image.specs.Start.{Start}
 use Rattle.image_files.specs.Faults.{IsUnread}
@@ -23,7 +23,7 @@ module _ (gives : List ℕ → List ℕ → Type 0) (withholds : List ℕ → Ty
   abbrev pub GivesNoText : List ℕ → Fault → Type 0
   GivesNoText name why = IsRefused IsNoText name why
 
-  -- no input; where no file is named, for want of memory alone
+  -- no input; where no file is named, only because there is not enough memory
   abbrev pub GivesNoInput : Option (List ℕ) → Fault → Type 0
   GivesNoInput None why = why ≡ fault.NoMemory
   GivesNoInput (Some name) why = IsUnread withholds name why
@@ -44,6 +44,6 @@ module _ (gives : List ℕ → List ℕ → Type 0) (withholds : List ℕ → Ty
     pub read : AreGiven gives None names starts
     pub refused : GivesNoInput input why
 
-  -- the first fault: of the images as they stand, and then of the input
+  -- the first fault: of the images in their order, and then of the input
   abbrev pub StopsReading : Option (List ℕ) → List (List ℕ) → Fault → Type 0
   StopsReading input names why = StopsAtImage names why ⊎ StopsAtInput input names why

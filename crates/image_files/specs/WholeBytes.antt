@@ -6,12 +6,12 @@ use Rattle.std.specs.Io.KnownBytes.{Appends}
 abbrev pub AreWhole : Option (List ℕ) → List ℕ → Type 0
 AreWhole known bytes = IfSome known (λ all. bytes ≡ all)
 
--- these are all bytes that an open file still had; `remaining` tells those of a file, where they are known
+-- these are all bytes that an open file still had; `remaining` gives those of a file, where they are known
 pub record AreRead {F : Type 0} (remaining : F → Option (List ℕ)) (bytes : List ℕ) : Type 0 where
   pub file : F
   pub whole : AreWhole (remaining file) bytes
 
--- an open file took all these bytes; `contents` tells those that a file holds, where they are known
+-- an open file took all these bytes; `contents` gives those that a file holds, where they are known
 pub record AreTaken {F : Type 0} (contents : F → Option (List ℕ)) (bytes : List ℕ) : Type 0 where
   pub old : F
   pub new : F

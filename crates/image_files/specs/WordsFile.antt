@@ -18,6 +18,6 @@ words_on lines = map (digits_value 16) lines
 abbrev pub IsWordsFile : List ℕ → Type 0
 IsWordsFile text = (take 1 (lines_of text) ≡ codes ".words" ∷ []) × AreWordLines (drop 1 (lines_of text))
 
--- the words that stand below the first line
+-- the words on the lines after the first
 abbrev pub words_in : List ℕ → List ℕ
 words_in text = words_on (drop 1 (lines_of text))

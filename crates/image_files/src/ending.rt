@@ -8,7 +8,7 @@ use std::io::Write;
 /// The exit status where a fault stopped a program.
 const FAULT: u8 = 2;
 
-/// The exit status of a program that came to this. What it wrote is handed on first, and a fault is told behind it, in the program's name.
+/// The exit status of a program that came to this. The program's output is flushed first. Then a fault is printed with the program's name.
 pub fn finish<O: Write, E: Write>(
     program: &str,
     done: Result<u8, Fault<'_>>,
@@ -27,7 +27,7 @@ pub fn finish<O: Write, E: Write>(
     }
 }
 
-/// Tells a fault in a program's name, and answers the exit status. Where it can't be written either, the status alone tells it.
+/// Prints a fault with a program's name, and returns the exit status. Where the fault can't be written, only the status reports it.
 pub fn fail<E: Write>(program: &str, fault: Fault<'_>, err: &mut E) -> u8
     ensures { result ≡ 2 }
 {

@@ -18,7 +18,7 @@ pub enum Fault<'a> {
     CannotMake(FileName<'a>),
     #[error("{0}: elf fault {1}")]
     ElfFault(&'a str, u8),
-    /// Of an assembler's source: a line, counted from 1 (0 stands for the whole), and the fault's number.
+    /// A fault of an assembler's source: a line, counted from 1 (0 means the whole source), and the fault's number.
     #[error("{0}: line {1}: fault {2}")]
     Source(&'a str, usize, u8),
     #[error("{0}: bad words")]

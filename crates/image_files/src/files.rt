@@ -91,7 +91,7 @@ pub fn read_file<'a, R: Files + AllocGlobal>(rt: &R, name: &'a str) -> Result<Ve
     }
 }
 
-/// All bytes of an input, which its name tells in a fault.
+/// All bytes of an input. A fault gives the input's name.
 pub fn read_whole<'a, I: Read + Drop>(
     alloc: Global,
     input: I,

@@ -26,7 +26,7 @@ pub fn read_image<'a, R: Folder + AllocGlobal>(rt: &R, name: &'a str) -> Result<
     image_in(rt.alloc(), file, name)
 }
 
-/// The image that the bytes of a file are, which its name tells in a fault.
+/// The image that the bytes of a file are. A fault gives the file's name.
 pub fn image_in<'a>(alloc: Global, file: Vec<u8>, name: &'a str) -> Result<Image, Fault<'a>>
     ensures image { IfOk result (HoldsImage file.items) }
     ensures fault { IfErr result IsOfNoLine }

@@ -13,7 +13,7 @@ use std::{fs, io};
 /// The most bytes that a file may have.
 pub const MOST_BYTES: usize = 33_554_432;
 
-/// Opens a file to read it whole, unless its kind or its length tells that it can't be. A named pipe is not opened, since that waits
+/// Opens a file to read it whole, unless its kind or its length shows that it can't be. A named pipe is not opened, since that waits
 /// for a writer, who may never come.
 pub fn open_to_read<R: Files>(rt: &R, name: &str) -> Option<R::File> {
     if is_named_pipe(rt, name) {
@@ -28,7 +28,7 @@ pub fn open_to_read<R: Files>(rt: &R, name: &str) -> Option<R::File> {
     }
 }
 
-/// Whether a name is that of a pipe itself. A pipe behind a link, as that of a shell's `<(..)` or `/dev/stdin`, has its other end.
+/// Whether a name is that of a pipe itself. A pipe that is a link's target, as of a shell's `<(..)` or `/dev/stdin`, has its other end.
 fn is_named_pipe<R: Files>(rt: &R, name: &str) -> bool {
     match fs::symlink_metadata(rt, name) {
         Ok(metadata) => metadata.file_type().is_fifo(),

@@ -7,7 +7,7 @@ use std::env;
 use std::env::Env;
 use std::io::ErrorKind;
 
-/// The words behind the program's name. One that is not UTF-8 is bad usage.
+/// The words after the program's name. One that is not UTF-8 is bad usage.
 pub fn read_words<'a, R: Env + AllocGlobal>(rt: &R) -> Result<Vec<String>, Fault<'a>>
     ensures refused { IfErr result (λ why. (why ≡ Fault.BadUsage) ⊎ (why ≡ Fault.NoMemory)) }
 {

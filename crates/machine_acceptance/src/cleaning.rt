@@ -34,8 +34,8 @@ struct Shown {
     first_byte: Option<u8>,
 }
 
-/// What a machine with these slots shows in the end, whose process has stored its first byte: it
-/// replies to these events as they tell.
+/// What a machine with these slots shows in the end. Its process has stored its first byte; then the
+/// machine gives each event its expected reply.
 fn shown_after<S: SwapSlot>(
     rt: &impl Abort,
     alloc: Global,

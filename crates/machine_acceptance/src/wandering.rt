@@ -26,7 +26,7 @@ fn any_key(random: &mut Random) -> Key {
     }
 }
 
-/// The pages that the replies told of last: what to do next with a machine that is to get on.
+/// The pages that the replies reported last: what to do next with a machine that is to make progress.
 #[derive(Drop)]
 struct Told {
     absent: Key,
@@ -99,7 +99,7 @@ impl Told {
         }
     }
 
-    /// An event of a page that is cleaned: mostly of the one that was told of last.
+    /// An event of a page that is cleaned: mostly of the page that was reported last.
     fn cleaning_event(&self, random: &mut Random) -> Event {
         match random.below(16) {
             0..=1 => Event::Clean(any_key(random)),
@@ -115,7 +115,7 @@ impl Told {
         }
     }
 
-    /// What a reply tells.
+    /// Records what a reply reports.
     fn heed(&mut self, event: Event, reply: Reply) {
         self.goes_on = None;
         match reply {

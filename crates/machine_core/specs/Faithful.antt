@@ -1,5 +1,5 @@
--- A machine whose processes stand for their flat runs, each with pages, tables and caches that go together, and whose list, pages,
--- frames and slots go together.
+-- A machine whose processes represent their flat runs. Each process has consistent pages, tables and caches. The machine's list, pages,
+-- frames and slots are consistent.
 use Rattle.std.specs.Prelude.{ℕ, List}
 use Rattle.machine_core.specs.Coherent.{EachCoherent}
 use Rattle.machine_core.specs.Machine.{CoreValue, IsMachine}

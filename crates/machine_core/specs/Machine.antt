@@ -46,15 +46,15 @@ module _ {S : Type 0} where
     pub framed : frame_in process.memory job.vpn ≡ Some frame
     pub same : frame.bytes ≡ job.copy
 
-  -- a copy that is out stands for its page: unless the page's dirty bit tells of a store since, its frame holds what was copied
+  -- a copy that is out represents its page: unless the page's dirty bit shows a later store, its frame holds what was copied
   pub record IsCopyOut (processes : List (SpaceValue S)) (job : JobValue S) : Type 0 where
     pub process : SpaceValue S
     pub small : job.vpn < 2 ^ 20
     pub found : slice_get processes job.process ≡ Some process
     pub stands : CopyStands job.vpn job.copy process.memory
 
-  -- The list's resident entries are the processes' resident pages; each frame's number stands once, among the free frames or in
-  -- one page; the saves that are out are of the pages that are being saved, and the copies of the pages of which one is out; and no
+  -- The list's resident entries are the processes' resident pages. Each frame's number occurs once, among the free frames or in
+  -- one page. The saves that are out are of the pages that are being saved. The copies are of the pages of which one is out. No
   -- slot is lost.
   pub record IsMachine (core : CoreValue S) : Type 0 where
     pub lawful : Lawful core.pager.pager.list

@@ -84,7 +84,7 @@ module _ {S : Type 0} where
       }
       pub reply_is : reply ≡ fault_reply fault
 
-    -- the list has no entry of the page, memory is wanting for one, and nothing has changed
+    -- the list has no entry of the page, there is not enough memory for one, and nothing has changed
     pub record IsNotListed : Type 0 where
       pub unlisted : kind_of key pager.pager.list.entries ≡ None
       pub pager_is : pager' ≡ pager

@@ -18,7 +18,7 @@ impl<L: Ledger, S: SwapSlot, C: Clock> Core<L, S, C> {
     pub fn faithful(&self)
         ensures { IsFaithful S.content S.honest self.now }
     {
-        // For the proof alone: a read tells its invariant.
+        // For the proof only: a read gives its invariant.
         let _ = &self.pager;
         each_coheres(self.processes.as_slice());
     }

@@ -1,4 +1,4 @@
-//! What pages, tables and caches of the machine's processes tell of one another.
+//! Consistency of the pages, tables and caches of the machine's processes.
 
 ghost use Rattle.machine_core.specs.Coherent.{EachCoherent};
 
@@ -18,8 +18,8 @@ pub(crate) fn each_coheres<L: Ledger, S: SwapSlot>(processes: &[Space<L, S>])
 }
 
 impl<L: Ledger, S: SwapSlot, C: Clock> Core<L, S, C> {
-    /// What holds of each process between any two calls, so after any list of events: it stands for its flat process where
-    /// slots are honest, and its pages, tables and caches go together. It does nothing.
+    /// What holds of each process between any two calls, so after any list of events. It represents its flat process where
+    /// slots are honest, and its pages, tables and caches are consistent. The call does nothing.
     pub fn coherent(&self)
         ensures { EachCoherent S.content S.honest self.now.processes }
     {

@@ -128,7 +128,7 @@ fn copy_barred(bar: CopyBar) -> EventRefusal
     }
 }
 
-/// Keeps the copy of a page, and tells what is replied.
+/// Keeps the copy of a page, and returns the reply.
 fn keep_copy<S: SwapSlot>(
     copied: Result<Copying<S>, CopyBar>,
     copies: &mut Vec<CleanJob<S>>,

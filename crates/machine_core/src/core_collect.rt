@@ -66,7 +66,7 @@ fn collect_at<L: Ledger, S: SwapSlot, C: Clock>(
     collect(pager, &mut processes[key.process as usize], key.vpn, slots)
 }
 
-/// Keeps the save of a changed page, and tells what is replied.
+/// Keeps the save of a changed page, and returns the reply.
 fn keep<S: SwapSlot>(looked: Looked<S>, jobs: &mut Vec<SaveJob<S>>) -> Reply
     requires { vec_len jobs.old < vec_capacity jobs.old }
     ensures reply { result ≡ looked_reply looked }

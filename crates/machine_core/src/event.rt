@@ -79,6 +79,6 @@ pub enum Reply {
     Copied,
     /// The page's slot holds what the page does, which is unchanged.
     Cleaned,
-    /// Nothing was done, except where memory was wanting: what was done before that stays.
+    /// Nothing was done, except where there was not enough memory: what was done before that stays.
     Refused(EventRefusal),
 }

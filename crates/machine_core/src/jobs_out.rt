@@ -24,7 +24,7 @@ pub(crate) fn write_out<S: SwapSlot, P>(
     Some(jobs.swap_remove(place).run())
 }
 
-/// Where the copy of a page stands among those that are out.
+/// The position of a page's copy among those that are out.
 fn place_of<S: SwapSlot, P>(jobs: &[WriteJob<S, P>], key: Key) -> Option<usize>
     ensures { result ≡ position (is_save_of key) jobs.now }
 {

@@ -21,7 +21,7 @@ impl<L: Ledger, S: SwapSlot, C: Clock> Core<L, S, C> {
     /// from 0, in their order; there may be none, and there are at most 64. The ledger has one part for each frame, and one for
     /// the pager itself.
     ///
-    /// Refused with the first of `BadSize` and `TooManyProcesses` that holds, or else where memory is wanting.
+    /// Refused with the first of `BadSize` and `TooManyProcesses` that holds, or else where there is not enough memory.
     pub fn new(
         alloc: Global,
         frames: u32,

@@ -95,7 +95,7 @@ impl<L: Ledger, S: SwapSlot, C: Clock> Core<L, S, C> {
             (slice_get self.now.pager.pager.list.entries i) }
         ensures few { length self.now.pager.pager.list.entries ≤ 2 * self.now.pager.pager.size }
     {
-        // For the proof alone: a read tells its invariant.
+        // For the proof only: a read gives its invariant.
         let _ = &self.pager;
         self.pager.entry(i)
     }

@@ -23,7 +23,7 @@ impl<L: Ledger, S: SwapSlot, C: Clock> Core<L, S, C> {
         status(self.processes.get(process as usize)?, vpn)
     }
 
-    /// Where the list's hands stand, and its two numbers.
+    /// Where the list's hands are, and its two numbers.
     pub fn hands(&self) -> Hands
         ensures share { result.share ≡ self.now.pager.pager.list.share }
         ensures asked { result.asked ≡ self.now.pager.pager.list.asked }

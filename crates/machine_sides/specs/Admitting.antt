@@ -31,7 +31,7 @@ abbrev pub bars_from : Option NotAdmitted → Option AdmitRefusal → Option Not
 bars_from (Some reason) refusal = Some reason
 bars_from None refusal = option_map pager_refusal refusal
 
--- the reason that a refusal tells of: want of memory is none
+-- the reason that a refusal reports: a lack of memory counts as none
 abbrev pub told_by : NotAdmitted → Option NotAdmitted
 told_by Ended = Some Ended
 told_by NotAbsent = Some NotAbsent
@@ -50,11 +50,11 @@ module _ {S : Type 0} where
   abbrev pub is_resident_at : SpaceValue S → ℕ → Bool
   is_resident_at space vpn = is_resident_stage (stage_at space vpn)
 
-  -- why a page of a process is not admitted, as the process tells
+  -- why a page of a process is not admitted, by the reasons of the process
   unfoldable pub page_bars : SpaceValue S → ℕ → Option NotAdmitted
   page_bars space vpn = if is_some space.running.ending then Some Ended else (if is_absent_at space vpn then None else Some NotAbsent)
 
-  -- the same with what the pager tells, want of memory aside: the first reason that holds
+  -- the same with the reasons of the pager, except a lack of memory: the first reason that holds
   unfoldable pub bars : Key → PagerState → SpaceValue S → Option NotAdmitted
   bars key state space = bars_from (page_bars space key.vpn) (admission_refused key state)
 

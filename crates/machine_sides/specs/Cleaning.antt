@@ -49,7 +49,7 @@ module _ {S : Type 0} where
     pub moves : BeginsCleaning (is_some old.running.ending) vpn old.memory new.memory
     pub stays : new ≡ record old { memory = new.memory }
 
-  -- its process alone changes, and of its memory the pages
+  -- only its process changes, and in its memory only the pages
   pub record LendsSpare (vpn : ℕ) (spare spare' : Option S) (answer : CleanCopy S) (old new : SpaceValue S) : Type 0 where
     pub small : vpn < 2 ^ 20
     pub page : CopiesPage vpn spare spare' answer old.memory new.memory

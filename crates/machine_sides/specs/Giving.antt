@@ -24,8 +24,8 @@ module _ {S : Type 0} where
   abbrev pub PoolsAnySlot : Option S → PoolValue S → PoolValue S → Type 0
   PoolsAnySlot slot old new = new ≡ record old { free = old.free ++ as_list slot }
 
-  -- Some pages gave back what they had: the frames are free, behind those that were, and the slots are in the pool behind those that were: they are all that
-  -- the pages below a number had to give, by rising number. No table goes, and what is reserved stays.
+  -- Some pages gave back what they had. The frames follow those that were free before, and the slots follow those that were in the pool
+  -- before. They are all that the pages below a number had to give, by rising number. No table goes, and what is reserved stays.
   pub record GivesSome (pager pager' : PagerState) (pool pool' : PoolValue S) (old new : SpaceValue S) : Type 0 where
     pub frames : List FrameValue
     pub slots : List S

@@ -1,4 +1,4 @@
--- The calls on a process alone: slices of a hart, one and several in a row, its notices, and an ending by the machine.
+-- The calls that concern only a process: slices of a hart, one and several in a row, its notices, and an ending by the machine.
 use Rattle.std.specs.Prelude.{◌≡◌, ℕ, zero, suc, ◌≤◌, ◌+◌, ◌++◌, Option, Some, None, List, replicate}
 use Rattle.std.specs.Option.{option_or}
 use Rattle.flat_machine.specs.Process.{flat_run}

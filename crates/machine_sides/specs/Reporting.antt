@@ -1,4 +1,4 @@
--- What is told of a machine that has run.
+-- What is reported of a machine that has run.
 use Rattle.std.specs.Prelude.{◌≡◌, ◌↔◌, ℕ, List, Option, IsTrue, map, length}
 use Rattle.flat_machine.specs.declared.end.End.{End}
 use Rattle.flat_machine.specs.declared.schedule.Turn.{Turn}
@@ -31,7 +31,7 @@ pub record Counts (pager : PagerSideValue) (report : Report) : Type 0 where
   pub drops : report.drops ≡ pager.drops
   pub questions : report.questions ≡ pager.pager.tallies.questions
 
--- a report tells what each of these processes has come to, what was counted, and whether an audit finds nothing amiss
+-- a report gives what each of these processes has come to, what was counted, and whether an audit finds no fault
 pub record Reports {S : Type 0} (pager : PagerSideValue) (spaces : List (SpaceValue S)) (report : Report) : Type 0 where
   pub processes : map told report.processes.items ≡ map come_to spaces
   pub frames : report.frames ≡ pager.pager.size

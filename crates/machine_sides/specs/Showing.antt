@@ -11,7 +11,7 @@ use Rattle.space_core.specs.StandsFor.{SpaceValue}
 
 module _ {S : Type 0} (held : S → List ℕ) (honest : Type 0) (failures : S → ℕ) where
   -- a look at bytes of a page, from an address on: where slots are honest they are the flat process's, whatever process the
-  -- schedule leaves; nothing changes but a slot that was read, which tells of no failure more then, and where it is refused the room is as it was
+  -- schedule leaves; nothing changes except a slot that was read, and it reports no further failure; a refusal leaves the room as it was
   pub record Peeks (address : ℕ) (room bytes : List (Option ℕ)) (result : Result (Unit {0}) PeekFault) (old new : SpaceValue S) : Type 0 where
     pub read : OnOk result (ShowsIn held honest old.memory address (length room) bytes)
     pub shown : honest → OnOk result (bytes_of (memory_of held old.memory) address (length room) ≡ Some bytes)

@@ -1,4 +1,4 @@
--- The pager with its counts, and how a process's memory moves alone.
+-- The pager with its counts, and moves of only a process's memory.
 use Rattle.std.specs.Prelude.{◌≡◌, ℕ}
 use Rattle.paged_memory.specs.Paged.{PagedValue}
 use Rattle.pager_core.specs.Pager.{PagerState}

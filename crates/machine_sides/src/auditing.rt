@@ -33,7 +33,7 @@ pub fn audit<L: Ledger, S: SwapSlot, C: Clock>(
             None => return false,
         }
     }
-    // For the proof alone: a read tells that what is read is lawful.
+    // For the proof only: a read shows that what is read is lawful.
     let _ = pager.question();
     is_all(pager, found)
 }

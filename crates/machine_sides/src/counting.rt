@@ -15,7 +15,7 @@ use swap_slots::SwapSlot;
 pub(crate) fn resident_entries<L: Ledger, C: Clock>(pager: &PagerSide<L, C>) -> usize
     ensures { result ≡ residents pager.now.pager.list (λ _. true) }
 {
-    // For the proof alone: a read tells that what is read is lawful.
+    // For the proof only: a read shows that what is read is lawful.
     let _ = pager.question();
     let mut count = 0;
     'entries: for i in 0..usize::MAX {
@@ -34,7 +34,7 @@ pub(crate) fn entries_of_resident_pages<L: Ledger, S: SwapSlot, C: Clock>(
 ) -> usize
     ensures { result ≡ residents pager.now.pager.list (is_resident_of side.now) }
 {
-    // For the proof alone: a read tells that what is read is lawful.
+    // For the proof only: a read shows that what is read is lawful.
     let _ = pager.question();
     let mut count = 0;
     'entries: for i in 0..usize::MAX {

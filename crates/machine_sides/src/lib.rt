@@ -1,6 +1,6 @@
 //! The machine's two sides: the pager with its counts, and a process.
 //!
-//! Each may stand under a lock of its own. Both are changed together only by [`sweep`], [`collect`], [`saved`], [`admit`],
+//! Each may be protected by a lock of its own. Both are changed together only by [`sweep`], [`collect`], [`saved`], [`admit`],
 //! [`undo`] and [`purge`], which are lent the two: list and resident pages go together, and no frame is lost.
 #![tactic(auto)]
 

@@ -10,7 +10,7 @@ use space_core::Space;
 use std::sync::ledger::Ledger;
 use swap_slots::SwapSlot;
 
-/// Counts the pages that stand in frames.
+/// Counts the pages that are in frames.
 #[tactic(auto, unfolding(crate::specs::Together::residents_in, crate::specs::Together::frames_in))]
 pub fn held_pages<L: Ledger, S: SwapSlot>(space: &Space<L, S>) -> HeldPages
     ensures resident { result.resident ≡ residents_in space.now (λ _. true) }

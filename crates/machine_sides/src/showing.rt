@@ -25,7 +25,7 @@ pub fn status<L: Ledger, S: SwapSlot>(space: &Space<L, S>, vpn: u32) -> Option<P
 }
 
 impl<L: Ledger, C: Clock> PagerSide<L, C> {
-    /// Where the list's hands stand, and its two numbers.
+    /// The positions of the list's hands, and the list's two numbers.
     pub fn hands(&self) -> Hands
         ensures share { result.share ≡ self.now.pager.list.share }
         ensures asked { result.asked ≡ self.now.pager.list.asked }

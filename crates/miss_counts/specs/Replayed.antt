@@ -18,11 +18,11 @@ use Rattle.miss_counts.specs.declared.row.Row.{Row}
 use Rattle.miss_counts.specs.declared.rows.Rows.{Rows}
 use Rattle.miss_counts.specs.declared.table_size.TableSize.{TableSize}
 
--- what is missed of a string behind its first so many references, by what is missed of strings
+-- what is missed of a string after its first so many references, by what is missed of strings
 abbrev pub missed_behind : ℕ → List Reference → (List Reference → ℕ) → ℕ
 missed_behind skip string misses = misses string - misses (take skip string)
 
--- a row of what each policy that is asked for misses of a string behind its first so many references, and of what the optimum misses
+-- a row of what each policy that is asked for misses of a string after its first so many references, and of what the optimum misses
 -- of the whole, where it is asked for
 unfoldable pub IsReplayed : PolicySet → ℕ → List Reference → Frames → PolicyCounts → Type 0
 IsReplayed wanted skip string frames row =
@@ -36,7 +36,7 @@ pub record IsReplayTable (wanted : PolicySet) (skip : ℕ) (string : List Refere
 
 -- ---- rows that count as references come
 
--- a policy has counted what it misses of what was played, behind what was skipped
+-- a policy has counted what it misses of what was played, after what was skipped
 pub record HasCounted (frames : ℕ) (policy : PolicyName) (skipped played : List Reference) (player : AnyPlayer) : Type 0 where
   pub served : serves policy frames ≡ true
   pub few : any.all-value.it player [] ≤ length played
@@ -50,7 +50,7 @@ CountsWhereServed frames policy skipped played (Some player) = HasCounted frames
 abbrev pub CountsByName : ℕ → List Reference → List Reference → PolicyName → NamedPlayer AnyPlayer → Type 0
 CountsByName frames skipped played policy named = (named.policy ≡ policy) × CountsWhereServed frames policy skipped played named.player
 
--- a row of these policies has played so much, behind what was skipped
+-- a row of these policies has played so much, after what was skipped
 pub record HasPlayed (policies : List PolicyName) (skipped played : List Reference) (frames : Frames) (row : Row) : Type 0 where
   pub with_frames : row.frames ≡ frames
   pub of_references : row.references ≡ length played

@@ -1,4 +1,4 @@
--- The pages of a string of references, and what policies are told of each reference.
+-- The pages of a string of references, and what policies are given of each reference.
 use Rattle.std.specs.Prelude.{List, map}
 use Rattle.clock_policy.specs.declared.key.Key.{Key}
 use Rattle.guest_strings.specs.declared.reference.Reference.{Reference}

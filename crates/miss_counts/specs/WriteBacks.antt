@@ -5,7 +5,7 @@ use Rattle.clock_policy.specs.declared.key.Key.{Key}
 use Rattle.guest_strings.specs.declared.reference.Reference.{Reference}
 use Rattle.page_policies.specs.Strings.{is_page}
 
--- whether the reference behind these misses, by what the policy misses of strings
+-- whether the reference after these is a miss, by what the policy misses of strings
 abbrev pub missed : (List Reference → ℕ) → List Reference → Reference → Bool
 missed misses_of before r = nat_lt (misses_of before) (misses_of (before ++ r ∷ []))
 

@@ -96,7 +96,7 @@ fn floors_if(
     Ok(floors)
 }
 
-/// What a string misses with so many frames, where it is told what the optimum does.
+/// What a string misses with so many frames, where the misses of the optimum are given.
 fn counts_of(
     alloc: Global,
     frames: Frames,

@@ -59,8 +59,8 @@ fn count_served<C: PlayCount>(
     counting.count_under(alloc, &mut player)
 }
 
-/// The count under each policy that is asked for, of a string of so many references, where it is
-/// told what is counted of the optimum.
+/// The count under each policy that is asked for, of a string of so many references, where the count
+/// of the optimum is given.
 pub fn counts_by<C: PlayCount>(
     alloc: Global,
     frames: Frames,

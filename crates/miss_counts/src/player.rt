@@ -59,7 +59,7 @@ pub(crate) fn new_player<P: Policy>(alloc: Global, frames: Frames) -> Result<Pla
 {
     match P::new(alloc, frames) {
         Ok(policy) => Ok(player_of(policy)),
-        // The policy serves these frames, so that only memory is wanting.
+        // The policy serves these frames, so the only error is that there is not enough memory.
         Err(_) => Err(AllocError),
     }
 }
@@ -138,7 +138,7 @@ impl<P: WritingPolicy> Counting for WritingPlayer<P> {
     }
 }
 
-/// What a policy is told of a reference.
+/// What a policy is given of a reference.
 fn use_of(reference: Reference) -> PageUse
     ensures { result ≡ use_of reference }
 {

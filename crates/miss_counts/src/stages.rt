@@ -9,7 +9,7 @@ pub enum Stage {
     Rows(usize, usize),
 }
 
-/// Who is told how far a count is. It has no say in what is counted.
+/// A listener is informed how far a count is. It does not affect what is counted.
 pub trait StageListener: Drop {
     fn tell(&mut self, stage: Stage);
 }

@@ -8,7 +8,7 @@ abbrev pub next_use : Key → List Key → ℕ
 next_use p [] = 0
 next_use p (q ∷ qs) = cond (is_page q p) 0 (suc (next_use p qs))
 
--- The pages q and s but the one whose next use is farthest; of several that are never used again the one that stands first leaves.
+-- The pages q and s without the one whose next use is farthest. Of several that are never used again, the first one leaves.
 abbrev pub but_farthest : List Key → Key → List Key → List Key
 but_farthest string q [] = []
 but_farthest string q (r ∷ s) =

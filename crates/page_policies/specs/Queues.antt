@@ -3,11 +3,11 @@ use Rattle.std.specs.Prelude.{ℕ, cond, List, [], ◌∷◌, take}
 use Rattle.clock_policy.specs.declared.key.Key.{Key}
 use Rattle.page_policies.specs.Strings.{holds, without, misses}
 
--- First in, first out. The page that came in last stands first; where each frame has a page, the one that came in first leaves.
+-- First in, first out. The list begins with the page that came in last. Where each frame has a page, the page that came in first leaves.
 abbrev pub fifo : ℕ → Key → List Key → List Key
 fifo m p s = cond (holds p s) s (take m (p ∷ s))
 
--- Least recently used. The page that was used last stands first; where each frame has a page, the one whose use is longest ago leaves.
+-- Least recently used. The list begins with the page that was used last. Where each frame has a page, the least recently used one leaves.
 abbrev pub lru : ℕ → Key → List Key → List Key
 lru m p s = take m (p ∷ without p s)
 

@@ -1,4 +1,4 @@
--- CLOCK (second chance) on the circle of frames, told from the hand on.
+-- CLOCK (second chance) on the circle of frames, listed from the hand on.
 use Rattle.std.specs.Prelude.{ℕ, zero, suc, Bool, true, false, cond, nat_lt, List, [], ◌∷◌, ◌++◌, length, drop}
 use Rattle.clock_policy.specs.declared.key.Key.{Key}
 use Rattle.clock_policy.specs.ClockPro.{is_hot}
@@ -38,7 +38,7 @@ one_gone (suc n) s = cond (front_used s) (one_gone n (turned s)) (drop 1 s)
 abbrev pub room_made : ℕ → List Slot → List Slot
 room_made m s = cond (nat_lt (length s) m) s (one_gone (length s) s)
 
--- A page that comes in is used, and stands where the hand comes last.
+-- A page that comes in is marked as used. It is in the place that the hand reaches last.
 abbrev pub second_chance : ℕ → Key → List Slot → List Slot
 second_chance m p s = cond (in_slots p s) (touched p s) (room_made m s ++ record { page = p; used = true } ∷ [])
 

@@ -1,4 +1,4 @@
--- Pages in frames, and how many references of a string miss: the words that every policy is told in.
+-- Pages in frames, and how many references of a string miss: the terms in which every policy is defined.
 use Rattle.std.specs.Prelude.{ℕ, ◌+◌, ◌==◌, ◌&&◌, Bool, true, false, cond, List, [], ◌∷◌}
 use Rattle.clock_policy.specs.declared.key.Key.{Key}
 
@@ -15,8 +15,8 @@ abbrev pub without : Key → List Key → List Key
 without p [] = []
 without p (q ∷ qs) = cond (is_page p q) qs (q ∷ without p qs)
 
--- How many references of a string miss: those whose page is in no frame at that moment. `held` tells what is in a frame, `next` what
--- a reference leaves.
+-- How many references of a string miss: those whose page is in no frame at that moment. `held` says whether a page is in a frame. `next`
+-- gives the state after a reference.
 abbrev pub misses : {S : Type 0} → (Key → S → Bool) → (Key → S → S) → S → List Key → ℕ
 misses held next s [] = 0
 misses held next s (p ∷ ps) = cond (held p s) 0 1 + misses held next (next p s) ps

@@ -39,7 +39,7 @@ impl Policy for Fifo {
     }
 
     fn refer(&mut self, page: Key) -> Result<HitOrMiss, AllocError> {
-        // For the proof alone: a read tells that what is read is lawful.
+        // For the proof only: a read shows that what is read is lawful.
         let _ = self.pages.len();
         if self.pages.contains(&page) {
             return Ok(HitOrMiss::Hit);

@@ -1,4 +1,4 @@
-//! Page replacement policies side by side: each plays a string of references, and tells which of them miss.
+//! Page replacement policies side by side: each plays a string of references, and reports which of them miss.
 #![tactic(auto)]
 
 mod fifo_policy;

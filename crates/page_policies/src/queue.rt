@@ -58,7 +58,7 @@ impl Queue {
         ensures err { OnErr result (self.new ≡ self.old) }
         ensures memory { OnErr result (holds page self.old ≡ false) }
     {
-        // For the proof alone: a read tells how many pages there may be.
+        // For the proof only: a read shows how many pages there may be.
         let _ = self.pages.len();
         let Ok(_) = self.pages.put(page, ()) else {
             return Err(AllocError);

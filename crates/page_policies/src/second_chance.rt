@@ -16,7 +16,7 @@ use std::alloc::{AllocError, Global};
 
 /// CLOCK, or second chance: the hand passes pages that were used, and the first that was not leaves.
 ///
-/// The circle's front is where the hand stands. An entry is hot where its page was used since the hand last passed it, else cold.
+/// The hand is at the circle's front. An entry is hot where its page was used since the hand last passed it, else cold.
 #[derive(Drop)]
 pub struct SecondChance {
     frames: usize,

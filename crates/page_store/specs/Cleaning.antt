@@ -98,7 +98,7 @@ IfOut (Unbacked slot) P = ⊥
 IfOut (Cleaning slot) P = ⊥
 IfOut CopyOut P = P
 
--- of a page of which a copy is out, with its frame and the bit that tells of a store since: that of its table entry, where it has one, else
+-- of a page of which a copy is out, with its frame and the bit that reports a store since: that of its table entry, where it has one, else
 -- the one that it took along
 abbrev pub IfCopyOut : {S : Type 0} → Bool → Place S → (FrameValue → Bool → Type 0) → Type 0
 IfCopyOut dirty Fresh P = ⊥
@@ -117,14 +117,14 @@ keeping now (Saving frame mark) = Saving frame mark
 keeping now (Away copy) = Away copy
 keeping now Purged = Purged
 
--- what comes of a copy that comes back, by the bit that tells of a store since, and what the page keeps then
+-- the result when a copy comes back, by the bit that reports a store since, and what the page keeps then
 abbrev pub EndsAs : {S : Type 0} → SavedValue S → FrameValue → Bool → Keeping S → Cleaned S → Type 0
 EndsAs job frame stored now (end.WrongPage back) = ⊥
 EndsAs job frame stored now end.Stored = IsTrue stored × (now ≡ Unbacked (Some job.slot))
 EndsAs job frame stored now end.Device = IsFalse stored × (frame.bytes ≡ job.copy) × (IsFalse job.passed) × (now ≡ Unbacked (Some job.slot))
 EndsAs job frame stored now end.Clean = IsFalse stored × (frame.bytes ≡ job.copy) × (IsTrue job.passed) × (now ≡ Saved (copy_of job))
 
--- and what the page is then. It is another page's where no copy of this one is out, or no store since tells why copy and frame differ
+-- and what the page is then. The copy is another page's if this page has no copy out, or if copy and frame differ and no store is reported
 abbrev pub EndsCleaning : {S : Type 0} → SavedValue S → Bool → Place S → Place S → Cleaned S → Type 0
 EndsCleaning job dirty old new (end.WrongPage back) =
     (back ≡ job) × (new ≡ old) × (¬ IfCopyOut dirty old (λ frame stored. IsFalse stored → frame.bytes ≡ job.copy))

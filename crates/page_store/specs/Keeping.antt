@@ -44,7 +44,7 @@ is_copy_out (Unbacked slot) = false
 is_copy_out (Cleaning slot) = false
 is_copy_out CopyOut = true
 
--- whether stores may reach the page with no dirty bit to tell of them: nothing backs it, and no copy is out that they would miss
+-- whether stores may reach the page with no dirty bit to report them: nothing backs it, and no copy is out that would lack them
 abbrev pub is_loose : {S : Type 0} → Keeping S → Bool
 is_loose NoSlot = false
 is_loose (Saved copy) = false

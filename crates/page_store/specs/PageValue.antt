@@ -63,7 +63,7 @@ slot_of (Saving frame mark) = NoSlot
 slot_of (Away copy) = Saved copy
 slot_of Purged = NoSlot
 
--- how many failures of its device the slot that a page has at hand tells of
+-- how many failures of its device are reported by the slot that a page has at hand
 abbrev pub failures_at : {S : Type 0} → (S → ℕ) → Place S → Option ℕ
 failures_at failures place = option_map failures (kept (slot_of place))
 

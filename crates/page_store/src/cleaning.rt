@@ -259,8 +259,8 @@ fn start_cleaning<L: Ledger, S: SwapSlot>(
     (State::ResidentOut(frame), CleanCopy::Copied(job))
 }
 
-/// What a page keeps whose copy comes back, and what comes of the cleaning, by the bit that tells of a store since the copy. Where no
-/// store tells why frame and copy differ, both are handed back.
+/// What a page keeps when its copy comes back, and the result of the cleaning, by the bit that reports a store since the copy. If
+/// frame and copy differ and no store is reported, both are handed back.
 fn end_cleaning<L: Ledger, S: SwapSlot>(
     frame: BareFrame<L>,
     job: CleanedJob<S>,

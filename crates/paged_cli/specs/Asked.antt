@@ -1,5 +1,5 @@
--- What the command that runs machines does with what it is asked for. `gives` says, of a name, the bytes that a file of it may be found to
--- hold; `old` and `new` are what stands in the output before and after.
+-- What the command that runs machines does with its request. `gives` relates a name to the bytes that a file of that name may be found to
+-- hold; `old` and `new` are the contents of the output before and after.
 use Rattle.std.specs.Prelude.{ℕ, List, Option}
 use Rattle.command_line.specs.declared.request.RunRequest.{RunRequest}
 use Rattle.command_line.specs.declared.request.Threading.{Threading}

@@ -1,4 +1,4 @@
--- What the pages, tables and caches of a process tell of one another at any time.
+-- How the pages, tables and caches of a process agree with one another at any time.
 use Rattle.std.specs.Prelude.{◌≡◌, ℕ, ◌+◌, ◌*◌, ◌%◌, ◌^◌, ◌<◌, true, false, if◌then◌else◌, Option, Some, None, Result, Ok, Err, List, All}
 use Rattle.page_memory.specs.Words.{page_number}
 use Rattle.page_memory.specs.Rights.{may}
@@ -37,13 +37,13 @@ module _ {S : Type 0} (pages : List (ℕ × PageValue S)) where
   abbrev pub HoldsFramed : List (List Translation) → Type 0
   HoldsFramed caches = (number : ℕ) → frame_seen (seen_at pages number) ≡ None → is_held number caches ≡ false
 
-  -- while a copy of a page is out and its dirty bit, or the one that it took along, tells of no store since, no cache has a translation of it
-  -- through which a store would set no bit
+  -- while a copy of a page is out and its dirty bit, or the one that it took along, reports no store since, no cache has a translation
+  -- of it through which a store would set no bit
   abbrev pub CopiesUnmarked : List (List ℕ) → List (List Translation) → Type 0
   CopiesUnmarked tables caches =
       (number : ℕ) (bytes : List ℕ) → number < 2 ^ 20 → told_of_page (entry_at tables number).dirty (page_at pages number) ≡ Some (false, bytes) → All (λ cache. All (λ (t : Translation). t.page ≡ number → t.dirty ≡ false) cache) caches
 
-  -- a walk in user mode, by the manual's process over the words that the tables stand for, leads where it is to
+  -- a walk in user mode, by the manual's process over the words that the tables represent, leads where the page's state requires
   abbrev pub WalksLead : List (List ℕ) → Type 0
   WalksLead tables =
       (address : ℕ) (access : Access) → address < 2 ^ 32 → walk_leads tables address access ≡ led access address (seen_at pages (page_number address))

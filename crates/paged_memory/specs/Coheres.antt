@@ -1,4 +1,4 @@
--- What the pages, tables and caches of a process tell of one another.
+-- How the pages, tables and caches of a process agree with one another.
 use Rattle.std.specs.Prelude.{ℕ, List}
 use Rattle.paged_memory.specs.Coherence.{MarksClear, HoldsFramed, CopiesUnmarked, WalksLead}
 use Rattle.paged_memory.specs.Paged.{PagedValue, Holds}
@@ -21,9 +21,9 @@ module _ {S : Type 0} where
   WalksLeadIn memory = WalksLead memory.pages memory.tables
 
 -- Each table entry is its page's, each cached translation is sound, and a page that is not changed equals its backing. Where the
--- accessed bit of a resident page is clear each translation of it is to be dropped; no cache holds a page that is being saved or
--- is away; a page of which a copy is out, with no store told of since, has no translation through which a store would go untold; and
--- a walk leads into a resident page's frame by a right that it has, and is a page fault for any other.
+-- accessed bit of a resident page is clear, each translation of it is to be dropped. No cache holds a page that is being saved or
+-- is away. A page with a copy out, and no store reported since, has no translation through which a store would go unreported.
+-- A walk leads into a resident page's frame by a right that it has, and is a page fault for any other.
 pub record Coheres {S : Type 0} (held : S → List ℕ) (honest : Type 0) (memory : PagedValue S) : Type 0 where
   pub agree : HoldsIn held honest memory
   pub accessed : MarksClearIn memory

@@ -32,7 +32,7 @@ module _ {S : Type 0} where
   abbrev pub IsUnmapped : ℕ → PagedValue S → Type 0
   IsUnmapped number memory = place_of number memory.pages ≡ None
 
-  -- one more page is mapped, behind the others
+  -- one more page is mapped, after the others
   abbrev pub AddsFresh : ℕ → Page → PagedValue S → PagedValue S → Type 0
   AddsFresh number page old new = new ≡ record old { pages = old.pages ++ (number, fresh page) ∷ [] }
 
@@ -48,7 +48,7 @@ module _ {S : Type 0} where
   abbrev pub AddsHart : PagedValue S → PagedValue S → Type 0
   AddsHart old new = new ≡ record old { caches = old.caches ++ [] ∷ [] }
 
-  -- a process's memory with these pages alone, none of them brought in, before any hart has a cache
+  -- a process's memory with only these pages, none of them brought in, before any hart has a cache
   pub record MapsFresh (process : ℕ) (pages : List (ℕ × Page)) (memory : PagedValue S) : Type 0 where
     pub process_is : memory.process ≡ process
     pub mapped : HasFresh pages memory

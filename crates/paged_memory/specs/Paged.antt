@@ -1,4 +1,4 @@
--- The pages, page tables and translation caches of one process, and the memory that they stand for.
+-- The pages, page tables and translation caches of one process, and the memory that they represent.
 use Rattle.std.specs.Prelude.{◌≡◌, ℕ, ◌^◌, ◌<◌, ◌==◌, Bool, true, false, if◌then◌else◌, Option, Some, option_map, option_and_then, is_some, List, All}
 use Rattle.frame_pool.specs.FrameValue.{FrameValue}
 use Rattle.page_memory.specs.declared.words.Access.TheVariants.{Store}
@@ -44,11 +44,11 @@ module _ {S : Type 0} where
   abbrev pub seen_at : List (ℕ × PageValue S) → ℕ → Option Seen
   seen_at pages number = option_map seen_of (page_at pages number)
 
-  -- each cached translation stands with the place of its page
+  -- each cached translation has the place of its page
   abbrev pub ArePlaced : List (ℕ × PageValue S) → List (List Translation) → Type 0
   ArePlaced pages caches = All (λ cache. All (λ t. place_of t.page pages ≡ Some t.place) cache) caches
 
-  -- a frame holds these bytes, with no slot, and the bit does not tell of a store
+  -- a frame holds these bytes, with no slot, and the bit reports no store
   abbrev pub HoldsOrigin : Bool → List ℕ → FrameValue → Keeping S → Type 0
   HoldsOrigin dirty origin frame NoSlot = (dirty ≡ false) × (frame.bytes ≡ origin)
   HoldsOrigin dirty origin frame (Saved copy) = ⊥
@@ -88,11 +88,11 @@ module _ {S : Type 0} where
   abbrev pub flat_page : (S → List ℕ) → PageValue S → Page
   flat_page held page = record { rights = page.origin.rights; bytes = content held page }
 
-  -- the pages of memory that the pages stand for
+  -- the pages of memory that the pages represent
   unfoldable pub flat_pages : (S → List ℕ) → List (ℕ × PageValue S) → Pages
   flat_pages held pages = map_by (flat_page held) pages
 
-  -- the memory that pages stand for, with the words that harts have reserved
+  -- the memory that pages represent, with the words that harts have reserved
   abbrev pub memory_in : (S → List ℕ) → List (ℕ × PageValue S) → Reservations → Memory
   memory_in held pages reserved = record { pages = flat_pages held pages; reserved = reserved }
 

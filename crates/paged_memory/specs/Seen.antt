@@ -49,7 +49,7 @@ abbrev pub is_dirty : Option Seen → Entry → Bool
 is_dirty (Some seen) e = dirty_standing seen.standing e
 is_dirty None e = false
 
--- whether stores may reach a page: its dirty bit or its mark tells of them, or they need not be told of
+-- whether stores may reach a page: its dirty bit or its mark reports them, or they need not be reported
 abbrev pub is_loose_standing : Standing → Bool
 is_loose_standing (Resident frame loose) = loose
 is_loose_standing (Leaving frame mark loose) = loose

@@ -1,4 +1,4 @@
--- What is read of a process's memory as a whole, page by page: whatever stands on it speaks of it by these words.
+-- What is read of a process's memory as a whole, page by page. Code that builds on this memory uses these names.
 use Rattle.std.specs.Prelude.{ℕ, Bool, Option, option_map, option_and_then, List, length}
 use Rattle.frame_pool.specs.FrameValue.{FrameValue}
 use Rattle.page_memory.specs.Pages.{Page}

@@ -36,7 +36,7 @@ impl<L: Ledger, S: SwapSlot> PagedMemory<L, S> {
     }
 
     /// Copies a page that is being cleaned, unless a store was made since the cleaning began, or a cache lets one be made that
-    /// no dirty bit would tell of. A page without a slot takes the spare one. Takes no memory.
+    /// no dirty bit would report. A page without a slot takes the spare one. Takes no memory.
     pub fn copy_clean(&mut self, vpn: u32, spare: &mut Option<S>) -> CleanCopy<S>
         requires { vpn < 2 ^ 20 }
         ensures answer { CopiesPage vpn spare.old spare.new result self.old self.new }

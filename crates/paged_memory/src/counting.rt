@@ -1,4 +1,4 @@
-//! How many pages of a process stand in frames.
+//! How many pages of a process are in frames.
 
 ghost use Rattle.std.specs.Prelude.{◌≡◌, ◌≤◌, ◌<◌, ◌^◌, true, ◌&&◌, cond};
 ghost use Rattle.page_store.specs.PageValue.{frame_of, slot_of};
@@ -22,7 +22,7 @@ pub struct HeldPages {
 }
 
 impl<L: Ledger, S: SwapSlot> PagedMemory<L, S> {
-    /// Counts the pages that stand in frames, by their numbers.
+    /// Counts the pages that are in frames, by their numbers.
     pub fn held_pages(&self) -> HeldPages
         ensures resident { result.resident ≡ residents_among self.now (λ _. true) }
         ensures framed { result.framed ≡ frames_among self.now (λ _. true) }

@@ -36,8 +36,8 @@ impl<L: Ledger, S: SwapSlot> PagedMemory<L, S> {
     }
 
     /// Maps pages of zeros that may be read and written at so many page numbers from the first on, wherever none is
-    /// mapped: all of them, or none where memory is wanting, as it can be only where one is missing. They are fresh, and
-    /// take no frame yet.
+    /// mapped. It maps all of them, or none if there is not enough memory. It can fail only where one is missing. The pages
+    /// are fresh, and take no frame yet.
     pub fn map_zeroed(&mut self, first: u32, count: u32) -> Result<(), AllocError>
         requires { first + count ≤ 2 ^ 20 }
         ensures adds { OnOk result (AddsZeros first count self.old self.new) }

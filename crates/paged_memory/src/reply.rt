@@ -1,7 +1,7 @@
 //! What an access answers that was not served at once.
 //!
-//! These go back in registers. A `Result` of a bus's error takes a slot of the caller's, which the inner loop would clear at
-//! each instruction, since the calls stand in it.
+//! These go back in registers. A `Result` of a bus's error takes a slot of the caller's. The inner loop would clear that slot
+//! at each instruction, because the calls are in that loop.
 
 ghost use Rattle.std.specs.Prelude.{◌≡◌};
 ghost use Rattle.paged_memory.specs.access.Replies.{loaded_by};

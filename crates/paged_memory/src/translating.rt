@@ -28,8 +28,8 @@ impl<L: Ledger, S: SwapSlot> PagedMemory<L, S> {
         self.caches.entries(hart)
     }
 
-    /// The words of the page tables, the root's first: it stands in the physical page `TABLE_PPN`, table `k` in the `k`-th
-    /// behind it.
+    /// The words of the page tables, the root's first. The root is in the physical page `TABLE_PPN`, and table `k` is in the
+    /// `k`-th page after it.
     pub fn tables(&self) -> &[[u32; 1024]]
         ensures { result.now ≡ tables_in self.now }
     {

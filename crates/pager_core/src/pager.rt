@@ -70,7 +70,7 @@ impl<L: Ledger, C: Clock> Pager<L, C> {
         ensures admitted { OnOk result (self.new ≡ admitted_with key self.new.free self.old) }
         ensures ok { OnOk result (admission_refused key self.old ≡ None) }
 
-        // Memory is wanting only where nothing else is.
+        // Lack of memory is the reason only where there is no other.
         ensures refused { IfErr result (λ refusal. RefusesAdmission refusal key self.old) }
         ensures grows { result ≡ Err AdmitRefusal.NoMemory → kind_of key self.old.list.entries ≡
             None }

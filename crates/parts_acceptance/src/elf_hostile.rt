@@ -42,7 +42,7 @@ fn told_of_file_header(place: usize, value: u8) -> Told {
         // The entry: within the same page, or in one that is not mapped.
         25 => in_page(value, Told::Pages(1)),
         26 | 27 => Told::Fault(15),
-        // Where the program header stands: at other bytes of the file, or past its end.
+        // Where the program header is: at other bytes of the file, or past its end.
         28 => at_other_header(value),
         29 if value < 32 => Told::Fault(15),
         29..=31 => Told::Fault(7),
@@ -79,7 +79,7 @@ fn told_of_program_header(place: usize, value: u8) -> Told {
         // The type: a dynamic one, or one that is skipped.
         0 if value == 2 || value == 3 => Told::Fault(8),
         0..=3 => Told::Fault(15),
-        // Where the bytes stand in the file, and how many these are: 4096 from 4096 on is the whole rest.
+        // Where the bytes are in the file, and how many there are: 4096 from 4096 on are the whole rest of the file.
         5 | 17 if value <= 16 => Told::Pages(1),
         4..=7 | 16..=19 => Told::Fault(9),
         // The address: into the next page, in another page, past the top.

@@ -1,4 +1,4 @@
-//! Tests of lower crates, each by its public calls alone: those crates are not proved a second time with tests of their own.
+//! Tests of lower crates, through only the public calls of each. Those crates are not proved a second time with tests of their own.
 #![tactic(auto)]
 
 #[cfg(test)]

@@ -13,7 +13,7 @@ use Rattle.policies_requests.specs.declared.request.MissesRequest.{MissesRequest
 abbrev pub opened : Start → Process
 opened start = opening start.image start.input
 
--- `gives` tells, of a name, the bytes that a file of it may be found to hold
+-- `gives` says, of a name, which bytes a file of that name may be found to hold
 module _ (gives : List ℕ → List ℕ → Type 0) where
   -- the guests that are asked for: by their order the images of the files, the first on the named input, the others on none
   pub record AreGuests (request : GuestRequest) (processes : List Process) : Type 0 where

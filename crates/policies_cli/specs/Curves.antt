@@ -36,7 +36,7 @@ pub record IsEstimate (one_in references : ℕ) (sample : List Key) (estimate : 
   pub sampled : estimate.of.sampled ≡ length sample
   pub of_references : estimate.of.references ≡ references
 
--- of the string that a trace tells
+-- of the string that a trace contains
 abbrev pub OfString : (List Key → Type 0) → Option Trace → Type 0
 OfString Holds trace = (string : List Key) × (IfSome trace (ArePages string) × Holds string)
 

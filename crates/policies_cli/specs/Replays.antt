@@ -1,4 +1,4 @@
--- What the commands that read traces do with what they are asked for. What a trace tells is known where the bytes of its file are.
+-- What the commands that read traces do with what they are asked for. What a trace contains is known where the bytes of its file are.
 use Rattle.std.specs.Prelude.{◌≡◌, ℕ, ◌<◌, false, List, [], length, map, Option, IfSome}
 use Rattle.std.specs.Option.{option_map}
 use Rattle.std.specs.List.{AllZip}
@@ -22,8 +22,8 @@ pub record OfFile {F : Type 0} (remaining : F → Option (List ℕ)) (format : T
   pub file : F
   pub holds : Holds (option_map (trace_of format) (remaining file))
 
--- Each row has what the trace's string misses behind as many references as were to be skipped, under the policies that were asked for,
--- with the numbers of frames that were asked for.
+-- Each row has what the trace's string misses after the skipped references. The policies and the numbers of frames are those that were
+-- asked for.
 pub record ReplaysAsAsked (request : ReplayRequest) (rows : List PolicyCounts) (trace : Option Trace) : Type 0 where
   pub string : List Reference
   pub told : IfSome trace (IsWhole string)
@@ -46,7 +46,7 @@ pub record PlaysNext (first now : Option Trace) (s t : Rows) (count : ℕ) : Typ
   pub many : length references ≡ count
   pub played : RowsPlay references s t
 
--- What is told of rows that play a whole trace: a number of references is skipped, and what the others miss is counted.
+-- What holds of rows that play a whole trace: a number of references is skipped, and what the others miss is counted.
 abbrev pub StreamsAsAsked : ReplayRequest → Option Trace → Rows → List PolicyCounts → Type 0
 StreamsAsAsked request trace rows counts = (frames : List Frames) → request.wanted.optimum ≡ false → HavePlayed request.wanted.policies.items frames [] [] rows
     → (string : List Reference) × (IfSome trace (IsWhole string) × ((request.skip < length string) × AllZip (IsReplayed request.wanted request.skip string) frames counts))

@@ -18,6 +18,6 @@ pub record AreTotals (string : List Reference) (totals : Totals) : Type 0 where
   pub writes : totals.writes ≡ writes_in string
   pub pages : totals.pages ≡ page_count (pages_of string)
 
--- the totals of the string that a trace tells
+-- the totals of the string that a trace contains
 abbrev pub TotalsOf : Totals → Option Trace → Type 0
 TotalsOf totals trace = (string : List Reference) × (IfSome trace (IsWhole string) × AreTotals string totals)

@@ -16,12 +16,12 @@ use Rattle.policies_cli.specs.Asked.{AreGuests}
 abbrev pub later : ℕ → ℕ
 later time = min (time + 1) (2 ^ 64 - 1)
 
--- the rows of a table behind one of this time
+-- the rows of a table after one of this time
 abbrev pub rows_behind : ℕ → List Reference → List ℕ
 rows_behind time [] = []
 rows_behind time (reference ∷ references) = csv_line (later time) reference.page ++ rows_behind (later time) references
 
--- references in a format that is written; those of addresses are read alone, and a text stands for them
+-- references in a format that is written; formats of addresses are only read, and the text format replaces them
 abbrev pub trace_text : TraceFormat → List Reference → List ℕ
 trace_text Text references = flat_map reference_line references
 trace_text Lackey references = flat_map reference_line references

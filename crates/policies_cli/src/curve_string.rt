@@ -14,7 +14,7 @@ use std::num::NonZeroU32;
 use std::rt::Files;
 use trace_files::{open_trace, read_sample, read_whole};
 
-/// The pages of the whole trace that is asked for. How far it is read is told meanwhile.
+/// The pages of the whole trace that is asked for. The progress of the reading is reported meanwhile.
 #[tactic(auto, using(crate::proofs::Opened::of_file))]
 pub(crate) fn curve_string<'a, R: Files + AllocGlobal, E: Write>(
     rt: &R,
@@ -31,7 +31,7 @@ pub(crate) fn curve_string<'a, R: Files + AllocGlobal, E: Write>(
     Ok(read?)
 }
 
-/// The references of a trace to one page in so many, and how many it has to any. How far it is read is told meanwhile.
+/// The references of a trace to one page in so many, and how many it has to any. The progress of the reading is reported meanwhile.
 #[tactic(auto, using(crate::proofs::Opened::of_file))]
 pub(crate) fn curve_sample<'a, R: Files + AllocGlobal, E: Write>(
     rt: &R,

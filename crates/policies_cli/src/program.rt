@@ -36,7 +36,7 @@ pub fn run_policies<R: Files + AllocGlobal, S: AsStr, O: Write, E: Write>(
     }
 }
 
-/// Ends a run that was not done, or that was asked for help alone.
+/// Ends a run that was not done, or that was asked only for help.
 fn end_wrongly<O: Write, E: Write>(wrong: &Wrong<'_>, out: &mut O, err: &mut E) -> u8 {
     match wrong {
         Wrong::Request(fault) => end_request(wrong, fault, out, err),

@@ -1,16 +1,16 @@
-//! How far a command is, told on standard error.
+//! The progress of a command, reported on standard error.
 
 use miss_counts::{Stage, StageListener};
 use std::io::Write;
 
-/// A line that each stage writes anew, and that is erased at the end. What can't be told is left out.
+/// A line that each stage writes anew, and that is erased at the end. What can't be written is left out.
 #[derive(Drop)]
 pub(crate) struct Teller<'e, E: Write> {
     err: &'e mut E,
     is_shown: bool,
 }
 
-/// How many references pass until it is told again.
+/// How many references pass until the next report.
 const STEP: u64 = 1 << 20;
 
 impl<'e, E: Write> Teller<'e, E> {

@@ -32,7 +32,7 @@ pub(crate) fn run_totals<'a, R: Files + AllocGlobal, W: Write, E: Write>(
     Ok(())
 }
 
-/// Counts a trace as it comes. How far it is counted is told meanwhile.
+/// Counts a trace as it comes. The progress of the count is reported meanwhile.
 #[tactic(auto, using(crate::proofs::Opened::of_file))]
 fn count_trace<'a, R: Files + AllocGlobal, E: Write>(
     rt: &R,

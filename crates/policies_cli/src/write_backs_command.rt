@@ -28,7 +28,7 @@ pub(crate) fn run_write_backs<'a, R: Files + AllocGlobal, W: Write, E: Write>(
     Ok(write_table(rows.as_slice(), request.printing, out)?)
 }
 
-/// How far the count is is told meanwhile.
+/// The progress of the count is reported meanwhile.
 fn count_told<'a, R: Files + AllocGlobal, E: Write>(
     rt: &R,
     request: &WriteBacksRequest<'a>,

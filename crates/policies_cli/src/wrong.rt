@@ -23,7 +23,7 @@ pub enum Wrong<'a> {
     /// How many references are skipped, of a trace that has so many.
     #[error("--skip {0}: all {2} references of {1} are skipped")]
     AllSkipped(u64, &'a str, u64),
-    /// What stands in a trace.
+    /// Why a trace is not read to its end.
     #[error("{0}")]
     Trace(TraceFault<'a>),
 }

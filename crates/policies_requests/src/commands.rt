@@ -123,7 +123,7 @@ fn table<'a>(alloc: Global, command: Made<'a>) -> Made<'a> {
     printed(alloc, command)
 }
 
-/// The command with what says how counts are printed, and whether it is told how far they are.
+/// The command with the options for how counts are printed, and whether their progress is reported.
 fn printed<'a>(alloc: Global, command: Made<'a>) -> Made<'a> {
     let command = with_flag(
         alloc,

@@ -23,7 +23,7 @@ fn hundredths(number: &str) -> Option<u32> {
     numeral(number.as_bytes(), 10, 100)?.checked_mul(HUNDREDTH)
 }
 
-/// What stands after the point, in millionths.
+/// The digits after the point, in millionths.
 fn rest(places: &str) -> Option<u32> {
     let unit = match places.len() {
         1 => 1000,

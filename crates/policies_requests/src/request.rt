@@ -41,7 +41,7 @@ pub struct MissesRequest<'a> {
     pub sizes: Option<Vec<TableSize>>,
     pub wanted: PolicySet,
     pub printing: Printing,
-    /// Whether it is told on standard error how far the count is.
+    /// Whether the progress of the count is reported on standard error.
     pub is_told: bool,
 }
 
@@ -59,10 +59,10 @@ pub struct ReplayRequest<'a> {
     pub format: TraceFormat<'a>,
     /// Where the optimum is among them the whole string is kept.
     pub wanted: PolicySet,
-    /// How many references come before those whose misses are told.
+    /// How many references come before those whose misses are reported.
     pub skip: u64,
     pub printing: Printing,
-    /// Whether it is told on standard error how far the count is.
+    /// Whether the progress of the count is reported on standard error.
     pub is_told: bool,
     pub trace: &'a str,
     ghost whole: { wanted.optimum ≡ true → skip ≡ 0 },
@@ -76,10 +76,10 @@ pub struct CurveRequest<'a> {
     pub has_optimum: bool,
     /// Whether working sets are counted with every window, and nothing else.
     pub is_of_windows: bool,
-    /// Where one page in so many is looked at: what is told is an estimate.
+    /// Where one page in so many is looked at: the result is an estimate.
     pub one_in: Option<NonZeroU32>,
     pub printing: Printing,
-    /// Whether it is told on standard error how far the count is.
+    /// Whether the progress of the count is reported on standard error.
     pub is_told: bool,
     pub trace: &'a str,
 }
@@ -91,7 +91,7 @@ pub struct WriteBacksRequest<'a> {
     pub format: TraceFormat<'a>,
     pub policies: Vec<PolicyName>,
     pub printing: Printing,
-    /// Whether it is told on standard error how far the count is.
+    /// Whether the progress of the count is reported on standard error.
     pub is_told: bool,
     pub trace: &'a str,
 }
@@ -100,7 +100,7 @@ pub struct WriteBacksRequest<'a> {
 #[derive(Drop)]
 pub struct TotalsRequest<'a> {
     pub format: TraceFormat<'a>,
-    /// Whether it is told on standard error how far the count is.
+    /// Whether the progress of the count is reported on standard error.
     pub is_told: bool,
     pub trace: &'a str,
 }

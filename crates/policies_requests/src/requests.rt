@@ -16,7 +16,7 @@ use clap::error::ErrorKind;
 use std::alloc::Global;
 use std::convert::AsStr;
 
-/// The request that the words behind the program's name make.
+/// The request that the words after the program's name make.
 pub fn read_request<'a, S: AsStr>(
     alloc: Global,
     words: &'a [S],

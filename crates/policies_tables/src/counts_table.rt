@@ -140,7 +140,7 @@ fn write_csv_value<W: Write>(
     }
 }
 
-/// Whether beside each policy's misses stands how many times the optimum's they are.
+/// Whether each policy's misses are followed by how many times the optimum's they are.
 fn has_shares(row: &TableRow<'_>, printing: Printing) -> bool {
     row.optimum.is_some() && !printing.is_ratio
 }
@@ -209,7 +209,7 @@ impl Due {
             .saturating_add(wide.max(name.saturating_add(1)));
     }
 
-    /// How many blanks stand before the count of the last column.
+    /// How many blanks precede the count of the last column.
     fn blanks(&self) -> usize {
         self.columns.saturating_sub(WIDE).saturating_sub(self.share)
     }

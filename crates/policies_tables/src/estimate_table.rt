@@ -19,7 +19,7 @@ pub struct Sample {
 }
 
 impl Sample {
-    /// How many of all references are taken to miss, where so many of the sample do: each stands for as many as a page of the sample does,
+    /// How many of all references are taken to miss, where so many of the sample do. Each represents as many as a page of the sample does,
     /// but no more miss than there are.
     pub fn estimate(self, misses: u64) -> u64
         ensures { result ≡ min (misses * self.one_in) self.references }
@@ -30,8 +30,8 @@ impl Sample {
     }
 }
 
-/// Writes what a sample says that LRU misses. Each frame of the sample stands for as many of the whole as one of its pages does, and so
-/// does each miss. First stands what it rests on.
+/// Writes what a sample says that LRU misses. Each frame of the sample represents as many of the whole as one of its pages does, and so
+/// does each miss. The first line gives what the estimate rests on.
 pub fn write_estimate<W: Write>(
     lru: &[usize],
     sample: Sample,

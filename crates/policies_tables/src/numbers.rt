@@ -12,7 +12,7 @@ pub(crate) fn write_ratio<W: Write>(misses: u64, references: u64, out: &mut W) -
     write!(out, "{whole}.{rest:0>4}")
 }
 
-/// The quotient of two counts in so small parts, rounded to the nearest; of none it is as told. No product is cut.
+/// The quotient of two counts, in units of one over `parts`, rounded to the nearest. If `of` is 0 it is `of_none`. No product is cut.
 pub(crate) fn part_of(count: u64, of: u64, parts: u64, of_none: u64) -> u128
     ensures of_none { of ≡ 0 → result ≡ of_none }
     ensures part { 0 < of → result ≡ (count * parts + of / 2) / of }

@@ -4,6 +4,6 @@
 #[derive(Clone, Copy, Debug, PartialEq, Eq)]
 pub struct Printing {
     pub is_csv: bool,
-    /// Whether misses are told as a part of the references.
+    /// Whether misses are printed as a part of the references.
     pub is_ratio: bool,
 }

@@ -21,17 +21,17 @@ ending_text (Trapped hart cause pc value) =
     codes "trap " ++ decimal (cause_number cause) ++ codes " hart " ++ decimal hart ++ codes " pc " ++ word_text pc ++ codes " value " ++ word_text value
 ending_text (Killed cause) = codes "killed " ++ kill_text cause
 
--- the output of a process, below a line that tells its length
+-- the output of a process, after a line that gives its length
 unfoldable pub length_text : ℕ → ℕ → List ℕ
 length_text number bytes = codes "process " ++ decimal number ++ codes " output " ++ decimal bytes ++ line_end
 
 abbrev pub output_text : ℕ → List ℕ → List ℕ
 output_text number output = length_text number (length output) ++ (output ++ line_end)
 
--- the line that tells how it ended, and after how many steps
+-- the line that reports how it ended, and after how many steps
 unfoldable pub end_text : ℕ → End → ℕ → List ℕ
 end_text number end steps = codes "process " ++ decimal number ++ codes " " ++ ending_text end ++ codes " after " ++ decimal steps ++ codes " steps" ++ line_end
 
--- what is told of a process of this number
+-- the report of the process with this number
 abbrev pub process_text : ℕ → List ℕ → End → ℕ → List ℕ
 process_text number output end steps = output_text number output ++ end_text number end steps

@@ -1,4 +1,4 @@
-//! What is told of a process that has ended.
+//! The report of a process that has ended.
 
 ghost use Rattle.std.specs.Prelude.{◌≡◌, OnOk};
 ghost use Rattle.std.specs.Io.KnownBytes.{Appends};
@@ -24,7 +24,7 @@ pub fn write_process<W: Write>(
     write_end(number, end, steps, out)
 }
 
-/// Writes the output of a process below a line that tells how many bytes it has.
+/// Writes a line with the number of bytes of a process's output, and then the output.
 fn write_output<W: Write>(number: usize, output: &[u8], out: &mut W) -> io::Result<()>
     ensures { OnOk result (Appends (W.contents out.old) (W.contents out.new)
         (output_text number output.now)) }

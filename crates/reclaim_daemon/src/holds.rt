@@ -21,7 +21,7 @@ use std::sync::Wait;
 use std::sync::ledger::Ledger;
 use swap_slots::{SlotPool, SwapSlot};
 
-/// What stood under a lock, as clauses see it, before a hold's call and after it.
+/// What a lock protects, as clauses see it, before a hold's call and after it.
 #[derive(Drop)]
 pub struct Change<T> {
     pub before: Snapshot<T>,
@@ -29,7 +29,7 @@ pub struct Change<T> {
 }
 
 impl<T> Change<T> {
-    /// From what stood there to what stands there now.
+    /// From what was there to what is there now.
     pub(crate) fn since(before: Snapshot<T>, now: &T) -> Self
         ensures before { result.before.value ≡ before.value }
         ensures after { result.after.value ≡ now.now }
@@ -65,7 +65,7 @@ pub struct HoldOfAll<L: Ledger, S: SwapSlot, C: Clock, A: Drop> {
     pub reply: A,
 }
 
-/// What stood under the three locks when they were taken.
+/// What the three locks protected when they were taken.
 #[derive(Drop)]
 struct Found<L: Ledger, S: SwapSlot, C: Clock> {
     desk: Snapshot<Desk<L, C>>,

@@ -26,7 +26,7 @@ pub struct HoldOfProcess<L: Ledger, S: SwapSlot, A: Drop> {
     pub reply: A,
 }
 
-/// A process as it stood when its lock was taken.
+/// A process as it was when its lock was taken.
 #[derive(Drop)]
 struct Found<L: Ledger, S: SwapSlot> {
     process: Snapshot<Held<L, S>>,

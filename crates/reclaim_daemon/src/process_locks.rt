@@ -175,7 +175,7 @@ impl<L: Ledger, S: SwapSlot> ProcessLocks<L, S> {
     }
 }
 
-/// What stood under these locks, in a list whose room is there.
+/// What these locks protected, in a list whose room is there.
 fn unlock_all<T: Drop>(locks: Vec<Mutex<T>>, room: Vec<T>) -> Vec<T>
     requires empty { room.items ≡ [] }
     requires room { vec_len locks ≤ vec_capacity room }

@@ -141,7 +141,7 @@ impl<L: Ledger, S: SwapSlot, C: Clock> Shared<L, S, C> {
         self.slot_count
     }
 
-    /// What stood under the locks, the processes in a list whose room is there. A process that was not the one of its lock's number makes
+    /// What the locks protected, the processes in a list whose room is there. A process that was not the one of its lock's number makes
     /// the machine unsound, and so does a pool of other slots than the machine was made of.
     pub fn into_parts(self, room: Vec<Held<L, S>>) -> Parts<L, S, C>
         requires empty { room.items ≡ [] }

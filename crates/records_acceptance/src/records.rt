@@ -22,7 +22,7 @@ const LINES: [&[u8]; 9] = [
     b"output 98ea6e4f216f2fb4b69fff9b3a44842c38686ca685f3f55dc48c5d3fb1107be4 3\n",
 ];
 
-/// A line of that record, counted from 0, what stands there in its place, and why the text is no record.
+/// The number of a line of that record, from 0, the text that replaces the line, and why the whole text is then no record.
 const CHANGES: [(usize, &[u8], RecordFault); 16] = [
     (0, b"guest-record 2\n", RecordFault::NotARecord),
     (0, b"", RecordFault::NotARecord),

@@ -1,4 +1,4 @@
-//! The policy told move by move, one entry at a time, with its loops written out: what the list's equations are tested against.
+//! The policy move by move, one entry at a time, with its loops written out. The list's equations are tested against it.
 
 use clock_policy::{Bit, Entry, EntryKind, Key, Kind, Refusal, Verdict};
 use std::alloc::{AllocError, Global};
@@ -33,7 +33,7 @@ impl Walked {
         self.list.iter().filter(|e| e.kind == kind).count()
     }
 
-    /// The key behind this one, the front's behind the last.
+    /// The key after this one. After the last one comes the front's.
     fn next(&self, key: Key) -> Option<Key> {
         let mut passed = false;
         for e in &self.list {

@@ -6,7 +6,7 @@ use Rattle.machine_sides.specs.declared.report.Report.{Report}
 use Rattle.process_text.specs.ExitStatus.{ending_of}
 use Rattle.process_text.specs.ProcessText.{line_end, process_text}
 
--- what is told of a process of this number
+-- what is printed of a process of this number
 abbrev pub line_text : ℕ → Told → List ℕ
 line_text number process = process_text number process.output (ending_of process.end) process.steps
 
@@ -35,6 +35,6 @@ counts_text report cleans = places_text report.frames report.page_ins report.vic
 abbrev pub audit_text : Bool → List ℕ
 audit_text is_sound = codes "audit " ++ (if is_sound then codes "ok" else codes "fault") ++ line_end
 
--- all that is told of a machine: its processes, what was counted, and the audit
+-- all that is printed of a machine: its processes, what was counted, and the audit
 abbrev pub report_text : Report → Option ℕ → List ℕ
 report_text report cleans = processes_text 0 (map told report.processes.items) ++ (counts_text report cleans ++ audit_text report.audit)

@@ -1,4 +1,4 @@
-//! What is told of a machine that has run, by its report.
+//! What is printed of a machine that has run, from its report.
 
 ghost use Rattle.std.specs.Prelude.{OnOk, map};
 ghost use Rattle.std.specs.Io.KnownBytes.{Appends};
@@ -10,8 +10,8 @@ use process_text::{end_of, write_process};
 use std::io;
 use std::io::Write;
 
-/// Writes what each process has come to, by their numbers, then what was counted, and whether an audit found nothing amiss. How many pages were
-/// cleaned is told where they were to be.
+/// Writes what each process has come to, by number, then the counts, and whether an audit found no fault. The number of pages that were
+/// cleaned is printed only where pages were to be cleaned.
 pub fn write_report<W: Write>(report: &Report, cleans: Option<u64>, out: &mut W) -> io::Result<()>
     ensures { OnOk result (Appends (W.contents out.old) (W.contents out.new)
         (report_text report.now cleans)) }

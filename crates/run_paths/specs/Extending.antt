@@ -13,7 +13,7 @@ IsCounted path = steps_of path.stretches.items ≡ path.total
 abbrev pub AreSame : ℕ → List Stretch → List Stretch → Type 0
 AreSame count old new = (i : ℕ) → i < count → whose_at new i ≡ whose_at old i
 
--- so many steps stand behind so many others, which are as before
+-- so many steps come after so many others, which are as before
 pub record Extends (old : Path) (done : ℕ) (whose : Whose) (count : ℕ) (is_kept : Bool) (new : Path) : Type 0 where
   pub counted : IsCounted new
   pub reached : done + count ≤ new.total
@@ -28,13 +28,13 @@ last_whose [] = None
 last_whose (stretch ∷ []) = Some stretch.whose
 last_whose (stretch ∷ (next ∷ path)) = last_whose (next ∷ path)
 
--- the last stretch, and all steps of a path behind so many, are whose they are
+-- the last stretch, and all steps of a path after so many, are of this kind: by turns, or of a hart
 pub record GoesOn (path : List Stretch) (done : ℕ) (whose : Whose) : Type 0 where
   pub some : 0 < length path
   pub last : last_whose path ≡ Some whose
   pub all : (i : ℕ) → done ≤ i → i < steps_of path → whose_at path i ≡ Some whose
 
--- the last stretch is longer, so that the path ends behind so many steps, if it ended before
+-- the last stretch is longer, so that the path ends after so many steps, if it ended before
 pub record Lengthens (old : Path) (end : ℕ) (new : Path) : Type 0 where
   pub counted : IsCounted new
   pub reached : end ≤ new.total

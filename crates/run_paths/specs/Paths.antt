@@ -30,7 +30,7 @@ abbrev pub step_by : Option Whose → Place → Option Place
 step_by None at = None
 step_by (Some whose) at = step_of (hart_of whose at.turn) at
 
--- whose step it is behind so many of a path
+-- whose step comes after so many of a path
 unfoldable pub whose_at : List Stretch → ℕ → Option Whose
 whose_at [] before = None
 whose_at (stretch ∷ path) before = if nat_lt before stretch.count then Some stretch.whose else whose_at path (before - stretch.count)
@@ -61,7 +61,7 @@ path_of turns = map stretch_of turns
 abbrev pub Leads : Stretch → Place → Place → Type 0
 Leads stretch old new = along (stretch ∷ []) stretch.count old ≡ Some new
 
--- so many steps of a path, behind so many others
+-- so many steps of a path, after so many others
 abbrev pub taken_of : Stretch → ℕ → List Stretch
 taken_of stretch zero = []
 taken_of stretch (suc more) = record { whose = stretch.whose; count = suc more } ∷ []

@@ -84,7 +84,7 @@ fn sum_of(one: u64, other: u64) -> Option<u64>
     one.checked_add(other)
 }
 
-/// So many steps of a path, behind so many others.
+/// So many steps of a path, after so many others.
 #[tactic(auto, using(crate::proofs::Parts::part_more, crate::proofs::Parts::part_all))]
 pub fn part_of(
     alloc: Global,
@@ -121,7 +121,7 @@ fn push_some(path: &mut Vec<Stretch>, stretch: Stretch, count: u64) -> Result<()
     Ok(())
 }
 
-/// Whose step it is behind so many.
+/// Whose step comes after so many.
 #[tactic(auto, using(crate::proofs::Parts::whose_found, crate::proofs::Parts::whose_more, crate::proofs::Parts::whose_none))]
 pub fn whose_at(path: &[Stretch], before: u64) -> Option<Whose>
     ensures { result ≡ whose_at path.now before }
@@ -150,7 +150,7 @@ fn are_by_turns(one: Whose, other: Whose) -> bool
 }
 
 impl Path {
-    /// Adds so many steps behind so many others. Where other steps stood there, all behind them are forgotten. Answers whether none was.
+    /// Adds so many steps after so many others. Where different steps followed, all of these are forgotten. Returns true if none was.
     #[tactic(auto, using(crate::proofs::Extending::extends_less))]
     pub fn extend(
         &mut self,
@@ -183,7 +183,7 @@ impl Path {
         Ok(false)
     }
 
-    /// Whether these are steps by turns, and the last stretch is one by turns that begins behind no more steps.
+    /// Whether these are steps by turns, and the last stretch is by turns too and begins after no more than `done` steps.
     fn goes_on(&self, done: u64, whose: Whose) -> bool
         requires counted { IsCounted self.now }
         requires within { done ≤ self.now.total }
@@ -200,7 +200,7 @@ impl Path {
         self.total.saturating_sub(last.count) <= done
     }
 
-    /// Makes the last stretch so much longer that the path ends behind so many steps, if that is longer.
+    /// Lengthens the last stretch so that the path ends after so many steps, if the path is shorter.
     fn lengthen(&mut self, end: u64)
         requires counted { IsCounted self.old }
         requires some { 0 < length self.old.stretches.items }

@@ -17,7 +17,7 @@ use debug_core::{MOST_POINTS, Point, Why};
 /// Points by their numbers.
 pub type Points = [Option<Point>; MOST_POINTS];
 
-/// A break or a watch that was met, behind so many steps.
+/// A break or a watch that was met, after so many steps.
 #[derive(Clone, Copy, Debug, PartialEq, Eq)]
 pub struct Met {
     pub steps: u64,
@@ -56,7 +56,7 @@ pub fn last_met(place: Place, path: &[Stretch], points: &Points) -> Result<Optio
 }
 
 impl Search {
-    /// A search that stands at its first place.
+    /// A search that is at its first place.
     fn new(place: Place) -> Self
         ensures { result ≡ record { place = place; steps = 0; hit = None; met = None } }
     {
@@ -105,7 +105,7 @@ impl Search {
     }
 }
 
-/// Why a debugger stops that has hit this watch, or stands at this break.
+/// Why a debugger stops that has hit this watch, or is at this break.
 fn why_before(hit: Option<u32>, at: Option<u32>) -> Option<Why>
     ensures { result ≡ why_before hit at }
 {
@@ -118,7 +118,7 @@ fn why_before(hit: Option<u32>, at: Option<u32>) -> Option<Why>
     }
 }
 
-/// What was met last: this, behind so many steps, if it is something.
+/// What was met last: this, after so many steps, if it is something.
 fn noted(met: Option<Met>, steps: u64, why: Option<Why>) -> Option<Met>
     ensures { result ≡ noted met steps why }
 {

@@ -12,7 +12,7 @@ ghost use Rattle.run_paths.specs.Meeting.{first_hit};
 use debug_core::{MOST_WATCHED, Point, any_changed, break_before, read_all};
 use flat_machine::FlatProcess;
 
-/// The bytes of a watch, and nothing behind them.
+/// The bytes of a watch, and nothing after them.
 pub(crate) type Window = [Option<u8>; MOST_WATCHED as usize];
 
 /// The window of a watch before anything was seen.
@@ -67,7 +67,7 @@ fn look_at(process: &FlatProcess, point: Option<Point>, seen: &mut Window) -> bo
     hit
 }
 
-/// The number of the first break at which a hart stands.
+/// The number of the first break that a hart is at.
 pub(crate) fn break_at(process: &FlatProcess, hart: u32, points: &[Option<Point>]) -> Option<u32>
     requires few { length points.now ≤ 32 }
     ensures { result ≡ break_at points.now (hart_registers hart process.now) }

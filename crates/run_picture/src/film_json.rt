@@ -47,7 +47,7 @@ fn write_scenes<W: Write>(film: &Film, out: &mut W) -> io::Result<()> {
     Ok(())
 }
 
-/// Writes the scene behind so many others: what is not as in the picture before it, or now and then the whole.
+/// Writes the scene that follows so many others: its differences from the picture before it, or at regular intervals the whole picture.
 pub(crate) fn write_scene<W: Write>(
     others: u64,
     scene: &Scene,

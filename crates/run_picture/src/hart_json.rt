@@ -47,7 +47,7 @@ fn write_changed<W: Write>(hart: &ShownHart, old: &ShownHart, out: &mut W) -> io
     write!(out, "}}")
 }
 
-/// Where a hart stands, with the word there and its instruction.
+/// Writes where a hart is, with the word there and its instruction.
 fn write_place<W: Write>(hart: &ShownHart, out: &mut W) -> io::Result<()> {
     let (pc, live, word) = (hart.regs.pc(), hart.live, OrNull(hart.word));
     write!(

@@ -2,8 +2,8 @@
 
 use std::fmt;
 
-/// Bytes as a string of JSON with one character, of that code, for each byte. It is in ASCII, and may stand in a script of a page:
-/// what could end the script is escaped.
+/// Bytes as a string of JSON. Each byte is one character, of that code. The string is in ASCII, and a script of a page may contain it:
+/// characters that could end the script are escaped.
 #[derive(Clone, Copy)]
 pub(crate) struct ByteText<'a>(pub &'a [u8]);
 

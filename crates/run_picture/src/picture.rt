@@ -19,7 +19,7 @@ pub struct Picture {
     pub pages: Vec<ShownPage>,
     /// The processes, by their numbers.
     pub processes: Vec<ShownProcess>,
-    /// The replacement list from its front, where the hot hand stands.
+    /// The replacement list from its front, where the hot hand is.
     pub entries: Vec<Entry>,
     pub hands: Hands,
     pub counts: SideCounts,

@@ -10,7 +10,7 @@ use paged_memory::PageStatus;
 use std::io::Write;
 use std::{fmt, io};
 
-/// Writes what stands in a scene behind its event, and ends its line: the picture, or where there is one before it what is not as there.
+/// Writes the part of a scene after its event, and ends its line: the picture, or its differences from the one before it, if there is one.
 pub(crate) fn write_picture<W: Write>(
     picture: &Picture,
     before: Option<&Picture>,
@@ -55,7 +55,7 @@ fn write_written<W: Write>(written: &[usize], out: &mut W) -> io::Result<()> {
     write!(out, "]")
 }
 
-/// The first page, if there is one, and those behind it.
+/// The first page, if there is one, and those after it.
 fn first_of(pages: &[ShownPage]) -> (Option<&ShownPage>, &[ShownPage]) {
     match pages.split_first() {
         Some((first, others)) => (Some(first), others),
@@ -156,7 +156,7 @@ fn write_counts<W: Write>(picture: &Picture, out: &mut W) -> io::Result<()> {
     )
 }
 
-/// A hand of the list, which stands on a page or on none.
+/// A hand of the list, which is on a page or on none.
 #[derive(Clone, Copy)]
 struct Hand(Option<Key>);
 

@@ -1,4 +1,4 @@
--- What tells bytes from others.
+-- The fingerprint of bytes.
 use Rattle.std.specs.Prelude.{ℕ, List, length}
 use Rattle.sha2.specs.Sha256.{sha256}
 use Rattle.run_records.specs.declared.fingerprint.Fingerprint.{Fingerprint}

@@ -20,7 +20,7 @@ use Rattle.run_records.specs.declared.fingerprint.Fingerprint.{Fingerprint}
 abbrev pub title : List ℕ
 title = codes "guest-record 1"
 
--- what stands behind a name and a space
+-- the text after a name and a space
 unfoldable pub after_word : List ℕ → List ℕ → Option (List ℕ)
 after_word name line = option_and_then (λ parts. cond (bytes_eq parts.0 name) (Some parts.1) None) (cut line)
 
@@ -111,7 +111,7 @@ trap_by (Some hart) (Some cause) None value = None
 trap_by (Some hart) None pc value = None
 trap_by None cause pc value = None
 
--- pc and value, behind hart and cause
+-- pc and value, after hart and cause
 abbrev pub trap_values : Option ℕ → Option Cause → Option (List ℕ × List ℕ) → Option End
 trap_values hart cause None = None
 trap_values hart cause (Some parts) = trap_by hart cause (word_of parts.0) (word_of parts.1)

@@ -48,7 +48,7 @@ abbrev pub said : {A : Type 0} → ℕ → List (List ℕ) → Option A → Resu
 said number lines None = Err (BadLine number)
 said number lines (Some x) = Ok (x, lines)
 
--- what the next line says, which has this number, and the lines behind it
+-- what the next line says, which has this number, and the lines after it
 unfoldable pub next_of : {A : Type 0} → (List ℕ → Option A) → ℕ → List (List ℕ) → Result (A × List (List ℕ)) RecordFault
 next_of says number [] = Err (BadLine number)
 next_of says number (line ∷ lines) = said number lines (says line)
@@ -62,7 +62,7 @@ unfoldable pub turns_of : List (List ℕ) → List Turn
 turns_of [] = []
 turns_of (line ∷ lines) = turn_before (turn_of line) (turns_of lines)
 
--- the lines behind those
+-- the lines after those
 unfoldable pub behind_turns : List (List ℕ) → List (List ℕ)
 behind_turns [] = []
 behind_turns (line ∷ lines) = cond (is_some (turn_of line)) (behind_turns lines) (line ∷ lines)
@@ -85,7 +85,7 @@ rest_of image input lines =
     on_ok (λ closing. Ok (record { image = image; input = input; turns = turns_of lines; closing = closing }))
     (closing_of (length (turns_of lines) + 4) (behind_turns lines))
 
--- the lines behind the first
+-- the lines after the first
 unfoldable pub body_of : List (List ℕ) → Result RecordValue RecordFault
 body_of lines =
     on_ok (λ image. on_ok (λ input. rest_of image.0 input.0 input.1)

@@ -16,7 +16,7 @@ longer c parts = (c ∷ parts.0, parts.1)
 abbrev pub is_space : ℕ → Bool
 is_space c = c == 32
 
--- what stands before the first space, and what stands after it; none where there is no space
+-- the part of a text before the first space, and the part after it; none where there is no space
 unfoldable pub cut : List ℕ → Option (List ℕ × List ℕ)
 cut [] = None
 cut (c ∷ text) = cond (is_space c) (Some ([], text)) (option_map (longer c) (cut text))
@@ -34,7 +34,7 @@ abbrev pub up_to : ℕ → Option ℕ → Option ℕ
 up_to most None = None
 up_to most (Some n) = cond (nat_le n most) (Some n) None
 
--- a zero stands before something else
+-- a zero precedes something else
 abbrev pub is_padded : List ℕ → Bool
 is_padded text = nat_lt 1 (length text) && (slice_index text 0 == 48)
 

@@ -1,4 +1,4 @@
-//! What tells bytes from others: their SHA-256 digest and how many they are.
+//! The fingerprint of bytes: their SHA-256 digest and their number.
 
 ghost use Rattle.std.specs.Prelude.{◌≡◌, ◌↔◌, IsTrue};
 ghost use Rattle.std.specs.Str.{bytes_eq};
@@ -11,7 +11,7 @@ use crate::numbers::{after_word, cut, number_in};
 use hex::{decode_to_slice, encode_to_slice};
 use sha2::{Digest, Sha256};
 
-/// What tells bytes from others.
+/// Identifies bytes by their digest and their number.
 #[derive(Clone, Copy, Debug, PartialEq, Eq)]
 pub struct Fingerprint {
     /// SHA-256
@@ -19,7 +19,7 @@ pub struct Fingerprint {
     pub length: u64,
 }
 
-/// What tells these bytes from others.
+/// The fingerprint of these bytes.
 pub fn take_fingerprint(bytes: &[u8]) -> Fingerprint
     ensures { result ≡ print_of bytes.now }
 {
@@ -29,7 +29,7 @@ pub fn take_fingerprint(bytes: &[u8]) -> Fingerprint
     }
 }
 
-/// Whether bytes are those that it tells.
+/// Whether bytes have this fingerprint.
 pub fn is_print_of(print: &Fingerprint, bytes: &[u8]) -> bool
     ensures { IsTrue result ↔ (print_of bytes.now ≡ print.now) }
 {

@@ -22,7 +22,7 @@ pub fn read_records_are_written()
         text }
 {}
 
-/// A record that replays, whose turns are those of a schedule, is refused for want of memory alone.
+/// A record that replays, whose turns are those of a schedule, is refused only for lack of memory.
 #[tactic(auto, using(crate::proofs::Refusing::only_memory))]
 pub fn replayed_records_replay()
     ensures { (told : RecordValue) (before flat after : Process) (fault : ReplayFault) →

@@ -1,4 +1,4 @@
-//! The words of a line: numbers, and what stands behind a name.
+//! The words of a line: numbers, and the text after a name.
 
 ghost use Rattle.std.specs.Prelude.{◌≡◌, ◌≤◌, ◌<◌, ◌^◌, Some, None, MatchOption, IfSome, position};
 ghost use Rattle.std.specs.Option.{SomeIff};
@@ -6,7 +6,7 @@ ghost use Rattle.std.specs.Str.Parse.{IsNumeral, digits_value};
 ghost use Rattle.run_records.specs.Words.{cut, is_space, is_padded, number_of, numeral_of, word_of};
 ghost use Rattle.run_records.specs.RecordLines.{after_word};
 
-/// What stands before the first space of a text, and what stands after it.
+/// The part of a text before its first space, and the part after it.
 #[tactic(auto, using(crate::proofs::Cuts::cut_found, crate::proofs::Cuts::cut_missing))]
 pub(crate) fn cut(text: &[u8]) -> Option<(&[u8], &[u8])>
     ensures { MatchOption result (cut text.now ≡ None) (λ parts. cut text.now ≡
@@ -25,7 +25,7 @@ fn space(text: &[u8]) -> Option<usize>
     text.iter().position(|byte| *byte == b' ')
 }
 
-/// What stands behind a name and a space.
+/// The text after a name and a space.
 #[tactic(auto, unfolding(crate::specs::RecordLines::after_word))]
 pub(crate) fn after_word<'a>(name: &[u8], line: &'a [u8]) -> Option<&'a [u8]>
     ensures { MatchOption result (after_word name.now line.now ≡ None) (λ rest. after_word name.now
@@ -60,7 +60,7 @@ pub(crate) fn word_in(text: &[u8]) -> Option<u32>
     }
 }
 
-/// Whether a zero stands before something else.
+/// Whether a zero precedes something else.
 fn is_padded(text: &[u8]) -> bool
     ensures { result ≡ is_padded text.now }
 {

@@ -57,7 +57,7 @@ fn is_ended(text: &[u8]) -> bool
     }
 }
 
-/// Reads the lines behind the first.
+/// Reads the lines after the first.
 #[tactic(auto, unfolding(crate::specs::Records::body_of))]
 fn read_body(alloc: Global, text: &[u8]) -> Result<Record, RecordFault>
     ensures read { IfOk result (λ told. body_of (lines_of text.now) ≡ Ok (value_of told)) }
@@ -111,7 +111,7 @@ fn read_turns(alloc: Global, text: &[u8]) -> Result<(Vec<Turn>, &[u8]), RecordFa
     Ok((turns, rest))
 }
 
-/// Adds a turn behind the others.
+/// Adds a turn after the others.
 fn add(turns: &mut Vec<Turn>, turn: Turn) -> Result<(), RecordFault>
     ensures added { OnOk result (turns.new.items ≡ turns.old.items ++ turn ∷ []) }
     ensures memory { IfErr result (λ fault. fault ≡ RecordFault.NoMemory) }
@@ -134,7 +134,7 @@ fn read_closing(number: u64, text: &[u8]) -> Result<Closing, RecordFault>
     alone(number + 3, Closing { end, steps, output }, text)
 }
 
-/// The last lines, behind which no line is left; one that is has this number.
+/// The last lines. No line may follow them; one that does has this number.
 fn alone(number: u64, closing: Closing, text: &[u8]) -> Result<Closing, RecordFault>
     ensures { result ≡ alone number (lines_of text.now) closing }
 {
@@ -144,7 +144,7 @@ fn alone(number: u64, closing: Closing, text: &[u8]) -> Result<Closing, RecordFa
     }
 }
 
-/// What the next line says, which has this name and this number, and the text behind it.
+/// What the next line says, and the text after it. The line has this name and this number.
 #[tactic(auto, unfolding(crate::specs::Records::next_of))]
 fn next_fingerprint<'a>(
     name: &[u8],
@@ -164,7 +164,7 @@ fn next_fingerprint<'a>(
     }
 }
 
-/// The ending that the next line tells, which has this number, and the text behind it.
+/// The ending that the next line gives, and the text after it. The line has this number.
 #[tactic(auto, unfolding(crate::specs::Records::next_of))]
 fn next_end(number: u64, text: &[u8]) -> Result<(End, &[u8]), RecordFault>
     ensures { MatchResult result (λ read. next_of end_of number (lines_of text.now) ≡ Ok (
@@ -181,7 +181,7 @@ fn next_end(number: u64, text: &[u8]) -> Result<(End, &[u8]), RecordFault>
     }
 }
 
-/// How many steps the next line tells, which has this number, and the text behind it.
+/// How many steps the next line gives, and the text after it. The line has this number.
 #[tactic(auto, unfolding(crate::specs::Records::next_of))]
 fn next_steps(number: u64, text: &[u8]) -> Result<(u64, &[u8]), RecordFault>
     ensures { MatchResult result (λ read. next_of steps_of number (lines_of text.now) ≡ Ok (

@@ -27,10 +27,10 @@ pub enum ReplayFault {
     TooManyTurns,
     #[error("the turns of the record are not as many steps as it says")]
     OtherSteps,
-    /// A turn is left when the process has ended, behind so many steps.
+    /// A turn is left when the process has ended, after so many steps.
     #[error("the process has ended after {0} steps, and the record goes on")]
     HasEnded(u64),
-    /// The next step is of a hart that is not live, behind so many steps.
+    /// After so many steps, the next step is of a hart that is not live.
     #[error("the hart of the step after {0} steps is not live")]
     NotLive(u64),
     #[error("the process has not ended as the record says")]

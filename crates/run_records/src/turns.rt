@@ -18,7 +18,7 @@ use crate::numbers::{after_word, cut, number_in, word_in};
 use flat_machine::{End, KillCause, Turn};
 use rv_exec::Cause;
 
-/// The turn that a line tells.
+/// The turn that a line gives.
 #[tactic(auto, unfolding(crate::specs::RecordLines::turn_of))]
 pub(crate) fn turn_in(line: &[u8]) -> Option<Turn>
     ensures { result ≡ turn_of line.now }
@@ -32,7 +32,7 @@ pub(crate) fn turn_in(line: &[u8]) -> Option<Turn>
     Some(Turn { hart, count })
 }
 
-/// The number of steps that a line tells.
+/// The number of steps that a line gives.
 #[tactic(auto, unfolding(crate::specs::RecordLines::steps_of))]
 pub(crate) fn steps_in(line: &[u8]) -> Option<u64>
     ensures { result ≡ steps_of line.now }
@@ -41,7 +41,7 @@ pub(crate) fn steps_in(line: &[u8]) -> Option<u64>
     number_in(steps, u64::MAX)
 }
 
-/// The ending that a line tells.
+/// The ending that a line gives.
 #[tactic(auto, unfolding(crate::specs::RecordLines::end_of))]
 pub(crate) fn end_in(line: &[u8]) -> Option<End>
     ensures { result ≡ end_of line.now }

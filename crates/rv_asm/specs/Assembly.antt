@@ -1,6 +1,6 @@
--- The assembler as a relation between a source, its program and a listing, and the first fault of a source. It stands apart
--- from any pass over the source: a program is what the lines say, a label's address is its section's start and the sizes of
--- what stands before it in that section, and each part's words stand at the address of the part.
+-- The assembler as a relation between a source, its program and a listing, and the first fault of a source. It does not depend
+-- on any pass over the source. A program is what the lines say. A label's address is its section's start plus the sizes of
+-- what precedes it in that section. Each part's words are at the address of the part.
 use Rattle.std.specs.Prelude.{◌≡◌, ℕ, ◌+◌, ◌*◌, ◌<◌, ◌≤◌, ℤ, pos, ◌-ℤ◌, ◌+ℤ◌, ⊤, List, [], ◌∷◌, ◌++◌, length, map, replicate, Option, Some, None, Ok, Err, codes}
 use Rattle.byteorder.specs.Endian.{little_bytes}
 use Rattle.rv_isa.specs.Operands.{IsImmediate, IsBranchOffset, IsJumpOffset}
@@ -50,11 +50,11 @@ parts_of line (Enter section) = []
 parts_of line (TextEffect parts) = map (InText line) parts
 parts_of line (DataEffect parts) = map (InData line) parts
 
--- a line's labels, which belong to the section that stood before it, and then its parts
+-- a line's labels, which belong to the section in effect before the line, and then its parts
 abbrev pub items_of : ℕ → Section → List (List ℕ) → StatementEffect → List Item
 items_of line section labels effect = map (Label section) labels ++ parts_of line effect
 
--- lines behind so many others, in a section: what they say one after another, and the section behind them
+-- lines after so many others, in a section: what they say one after another, and the section after them
 unfoldable pub Tells : ℕ → Section → List (List ℕ) → List Item → Section → Type 0
 Tells before section [] items last = (items ≡ []) × (last ≡ section)
 Tells before section (text ∷ below) items last =
@@ -63,21 +63,21 @@ Tells before section (text ∷ below) items last =
 
 -- ---- labels
 
--- no label of this name stands there
+-- no label there has this name
 unfoldable pub Lacks : List Item → List ℕ → Type 0
 Lacks [] name = ⊤
 Lacks (Label section other ∷ items) name = (other ≡ name → ⊥) × Lacks items name
 Lacks (InText line code ∷ items) name = Lacks items name
 Lacks (InData line datum ∷ items) name = Lacks items name
 
--- no label stands twice
+-- no label is defined twice
 unfoldable pub DistinctLabels : List Item → Type 0
 DistinctLabels [] = ⊤
 DistinctLabels (Label section name ∷ items) = Lacks items name × DistinctLabels items
 DistinctLabels (InText line code ∷ items) = DistinctLabels items
 DistinctLabels (InData line datum ∷ items) = DistinctLabels items
 
--- a name's label has an address: its section's start and the sizes of what stands before it in that section
+-- a name's label has an address: its section's start plus the sizes of what precedes it in that section
 pub record HasAddress (items : List Item) (name : List ℕ) (address : ℕ) : Type 0 where
   pub section : Section
   pub front : List Item
@@ -103,7 +103,7 @@ pub record IsSplit (address high : ℕ) (low : ℤ) : Type 0 where
   pub whole : pos (high * 4096) +ℤ low ≡ pos address
   pub signed : IsImmediate low
 
--- the words of a part of the text that stands at an address
+-- the words of a part of the text at an address
 unfoldable pub PutsWords : List Item → ℕ → CodePart → List TextWord → Type 0
 PutsWords items here (Fixed insn) words = words ≡ Instruction insn ∷ []
 PutsWords items here (LoadAddress rd label) words =
@@ -124,7 +124,7 @@ PutsBytes items (Half number) bytes = bytes ≡ little_bytes 2 number
 PutsBytes items (Byte number) bytes = bytes ≡ number ∷ []
 PutsBytes items (Zeros count) bytes = bytes ≡ replicate count 0
 
--- the words of a part, behind as many as the parts before it take
+-- the words of a part, after as many words as the parts before it take
 pub record TextAt (items front : List Item) (code : CodePart) (text : List TextWord) : Type 0 where
   pub before : List TextWord
   pub words : List TextWord
@@ -133,7 +133,7 @@ pub record TextAt (items front : List Item) (code : CodePart) (text : List TextW
   pub place : 4 * length before ≡ size Text front
   pub put : PutsWords items (text_start + size Text front) code words
 
--- the bytes of a part, behind as many as the parts before it take
+-- the bytes of a part, after as many bytes as the parts before it take
 pub record DataAt (items front : List Item) (datum : Datum) (data_bytes : List ℕ) : Type 0 where
   pub before : List ℕ
   pub bytes : List ℕ
@@ -149,7 +149,7 @@ pub record HoldsParts (items : List Item) (text : List TextWord) (bytes : List �
   pub text_size : 4 * length text ≡ size Text items
   pub data_size : length bytes ≡ size Data items
 
--- the entry is where the label `_start` stands, if it stands in the text before its end; else it is where the text begins
+-- the entry is where the label `_start` is, if it is in the text before its end; else it is where the text begins
 pub record EntersAt (items : List Item) (entry : ℕ) : Type 0 where
   pub labelled : (front back : List Item) → items ≡ front ++ Label Text (codes "_start") ∷ back → size Text front < size Text items → entry ≡ text_start + size Text front
   pub unlabelled : ((front back : List Item) → items ≡ front ++ Label Text (codes "_start") ∷ back → size Text front < size Text items → ⊥) → entry ≡ text_start
@@ -168,7 +168,7 @@ pub record Assembles (source : List ℕ) (listing : ListingContent) : Type 0 whe
 
 -- ---- faults
 
--- what is wrong with a line behind lines that have a program: its form, its statement, a label that stands already, or too much
+-- what is wrong with a line after lines that have a program: its form, its statement, a label that is already defined, or too much
 -- text or data, in this order
 pub data LineFault (number : ℕ) (section : Section) (items : List Item) (text : List ℕ) (kind : FaultKind) : Type 0 where
   form : line_form text ≡ Err kind → LineFault number section items text kind

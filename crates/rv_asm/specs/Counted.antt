@@ -1,4 +1,4 @@
--- What the code keeps beside the items of a program: where each name stands, and how many bytes each section has.
+-- What the code keeps besides the items of a program: where each name is defined, and how many bytes each section has.
 use Rattle.std.specs.Prelude.{◌≡◌, ◌≤◌, ℕ, List}
 use Rattle.std.specs.Str.{bytes_eq}
 use Rattle.std.specs.HashMap.{HashMap, get_by}

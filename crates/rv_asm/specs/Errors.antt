@@ -1,4 +1,4 @@
--- The error of a source, from what is told of one of its lines.
+-- The error of a source, from the refusal of one of its lines.
 use Rattle.std.specs.Prelude.{ℕ}
 use Rattle.asm_lines.specs.declared.fault.LineRefusal.{LineRefusal}
 use Rattle.asm_lines.specs.declared.fault.LineRefusal.TheVariants as refusal

@@ -1,4 +1,4 @@
--- The first pass over a source: line by line to the items of its program, and to the first fault that can be told without addresses.
+-- The first pass over a source: line by line to the items of its program, and to the first fault that can be found without addresses.
 use Rattle.std.specs.Prelude.{ℕ, ◌+◌, ◌&&◌, nat_le, Bool, true, false, List, [], ◌∷◌, ◌++◌, map, is_some, Result, Ok, Err}
 use Rattle.asm_lines.specs.declared.fault.FaultKind.{FaultKind}
 use Rattle.asm_lines.specs.declared.fault.FaultKind.TheVariants.{LabelTwice, TooLong}
@@ -23,7 +23,7 @@ pub record Progress : Type 0 where
 abbrev pub no_lines : Progress
 no_lines = record { section = Text; items = [] }
 
--- a label is added that must not stand yet
+-- adds a label, which must not be defined yet
 abbrev pub unless_there : Bool → Progress → List ℕ → Result Progress FaultKind
 unless_there true progress name = Err LabelTwice
 unless_there false progress name = Ok (record progress { items = progress.items ++ Label progress.section name ∷ [] })

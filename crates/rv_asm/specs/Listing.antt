@@ -24,7 +24,7 @@ text_rights = read_execute
 abbrev pub data_rights : Rights
 data_rights = read_write
 
--- the entry: the label `_start`, where it stands in the text before its end; else where the text begins
+-- the entry: the label `_start`, where it is in the text before its end; else where the text begins
 abbrev pub entry_point_if : Bool → ℕ → ℕ
 entry_point_if true offset = text_start + offset
 entry_point_if false offset = text_start
@@ -79,7 +79,7 @@ laid_out items = unless_empty (size Text items == 0) items
 unfoldable pub assembled : List ℕ → Result Assembly FaultAt
 assembled source = chained (λ progress. laid_out progress.items) (first_pass source)
 
--- a listing of what is told, where it is an assembly
+-- a listing of the result, where it is an assembly
 abbrev pub ListsTold : Result Assembly FaultAt → ListingContent → Type 0
 ListsTold (Ok assembly) listing = Lists assembly listing
 ListsTold (Err fault) listing = ⊥

@@ -29,12 +29,12 @@ section_of_label name (Label section other) = if bytes_eq other name then Some s
 section_of_label name (InText line code) = None
 section_of_label name (InData line datum) = None
 
--- the place of a name behind an item, from its place in what follows
+-- the place of a name in items that begin with this one, from its place in the items after it
 abbrev pub place_from : Item → Option Section → Option LabelPlace → Option LabelPlace
 place_from item (Some section) below = Some (record { section = section; offset = 0 })
 place_from item None below = option_map (λ place. record { section = place.section; offset = item_length place.section item + place.offset }) below
 
--- where the label of a name stands: its section, and how many bytes the section has before it
+-- where the label of a name is: its section, and how many bytes the section has before it
 unfoldable pub label_place : List Item → List ℕ → Option LabelPlace
 label_place [] name = None
 label_place (item ∷ items) name = place_from item (section_of_label name item) (label_place items name)

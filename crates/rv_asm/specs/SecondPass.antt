@@ -1,5 +1,5 @@
 -- The second pass over a program: item by item to the words of its text and the bytes of its data, and to the first fault
--- that only addresses tell.
+-- that can be found only with addresses.
 use Rattle.std.specs.Prelude.{ℕ, ◌+◌, ◌*◌, ◌%◌, ◌==◌, ◌&&◌, pos, ◌-ℤ◌, nat_le, nat_lt, Bool, true, false, List, [], ◌∷◌, ◌++◌, length, replicate, Option, Some, None, Result, Ok, Err}
 use Rattle.byteorder.specs.Endian.{little_bytes}
 use Rattle.rv_isa.specs.declared.instruction.Insn.TheVariants.{Lui, OpImmediate, Jal, Branch as BranchInsn}
@@ -31,7 +31,7 @@ abbrev pub words_list : Words → List TextWord
 words_list (One word) = word ∷ []
 words_list (Two first second) = first ∷ second ∷ []
 
--- the address of a label that must stand somewhere, and what it gives
+-- the address of a label that must be defined, and what it gives
 abbrev pub at_label : {A : Type 0} → (ℕ → Result A FaultKind) → Option ℕ → Result A FaultKind
 at_label next (Some address) = next address
 at_label next None = Err NoLabel
@@ -57,7 +57,7 @@ abbrev pub branch_words : BranchKind → ℕ → ℕ → ℕ → ℕ → Result 
 branch_words kind rs1 rs2 here target =
     if_reached (reaches 4096 here target) (Instruction (BranchInsn kind rs1 rs2 (pos target -ℤ pos here)))
 
--- the words of a part of the text that stands at an address
+-- the words of a part of the text at an address
 unfoldable pub code_words : (List ℕ → Option ℕ) → ℕ → CodePart → Result (List TextWord) FaultKind
 code_words address here (Fixed insn) = Ok (Instruction insn ∷ [])
 code_words address here (LoadAddress rd label) = at_label (λ target. Ok (load_words rd target)) (address label)
@@ -74,7 +74,7 @@ datum_bytes address (Half number) = Ok (little_bytes 2 number)
 datum_bytes address (Byte number) = Ok (number ∷ [])
 datum_bytes address (Zeros count) = Ok (replicate count 0)
 
--- where the next word of text stands
+-- the address of the next word of text
 abbrev pub next_address : Sections → ℕ
 next_address sections = text_start + 4 * length sections.text
 

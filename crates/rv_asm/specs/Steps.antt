@@ -24,7 +24,7 @@ abbrev pub on_line : {A : Type 0} → ℕ → Result A FaultKind → Result A Fa
 on_line line (Ok x) = Ok x
 on_line line (Err kind) = Err (record { line = line; kind = kind })
 
--- an error is the fault that the definition tells, or want of memory
+-- an error is the fault that the definition gives, or lack of memory
 abbrev pub Fails : {A : Type 0} → Result A FaultAt → AsmError → Type 0
 Fails told (Fault line kind) = told ≡ Err (record { line = line; kind = kind })
 Fails told NoMemory = ⊤

@@ -5,7 +5,7 @@ use Rattle.rv_isa.specs.declared.instruction.Insn.{Insn}
 use Rattle.rv_asm.specs.declared.word.TextWord.{TextWord}
 use Rattle.rv_asm.specs.declared.word.TextWord.TheVariants.{Instruction, Plain}
 
--- a number stands for a word: it agrees with the instruction by the instruction table, or is the number itself
+-- a number represents a word: it agrees with the instruction by the instruction table, or is the number itself
 abbrev pub StandsForWord : ℕ → TextWord → Type 0
 StandsForWord number (Instruction insn) = Agrees number insn
 StandsForWord number (Plain other) = number ≡ other
@@ -14,7 +14,7 @@ abbrev pub instruction_of : TextWord → Option Insn
 instruction_of (Instruction insn) = Some insn
 instruction_of (Plain number) = None
 
--- numbers stand for words, each for its own
+-- numbers represent words, each number its own word
 unfoldable pub Spell : List ℕ → List TextWord → Type 0
 Spell [] [] = Unit {0}
 Spell [] (word ∷ words) = ⊥
@@ -32,7 +32,7 @@ words_from [] insns = []
 words_from (number ∷ numbers) [] = []
 words_from (number ∷ numbers) (insn ∷ insns) = word_from number insn ∷ words_from numbers insns
 
--- what the code keeps of a text: its numbers stand for its words, and its instructions are theirs
+-- what the code keeps of a text: its numbers represent its words, and its instructions are those of the words
 pub record AreWords (numbers : List ℕ) (insns : List (Option Insn)) : Type 0 where
   pub spell : Spell numbers (words_from numbers insns)
   pub instructions : insns ≡ map instruction_of (words_from numbers insns)

@@ -24,9 +24,9 @@ use std::alloc::{AllocError, Global};
 
 /// Assembles a source.
 ///
-/// Refused with its first fault, as [`FaultKind`] orders them: that of the first line which has one by its form, its statement,
-/// its labels or its size; else, where there is no word of text, `Empty` at line 0; else that of the first part of the text or
-/// the data whose label stands nowhere or is out of reach. Want of memory comes last.
+/// Refused with its first fault, as [`FaultKind`] orders them. First is the fault of the first line that has one in its form, its
+/// statement, its labels or its size. Next, where there is no word of text, is `Empty` at line 0. Third is the fault of the first
+/// part of the text or the data whose label is not defined or is out of reach. Lack of memory comes last.
 pub fn assemble(alloc: Global, source: &str) -> Result<Listing, AsmError>
     ensures listing { IfOk result (Assembles source.now) }
     ensures refusal { IfErr result (IsFirstFault source.now) }
@@ -62,7 +62,7 @@ fn make_listing(
     requires some { 0 < size Text program.now.items }
     ensures { IfOk result (Lists (record { items = program.now.items; sections = sections })) }
 {
-    // For the proof alone: a read tells that what is read is lawful.
+    // Only for the proof: a read shows that what is read is lawful.
     let _ = program.items();
     let (words, instructions, bytes) = sections.into_parts();
     let code = bytes_of_words(alloc, &words)?;

@@ -12,7 +12,7 @@ use asm_lines::FaultKind;
 use asm_statements::CodePart;
 use rv_isa::{BranchKind, BranchOffset, ImmediateKind, Insn, JumpOffset, Reg, high_part, low_part};
 
-/// The words of a part of the text that stands at an address.
+/// The words of a part of the text at an address.
 #[tactic(auto, unfolding(crate::specs::SecondPass::code_words))]
 pub(crate) fn code_words(
     program: &Program<'_>,

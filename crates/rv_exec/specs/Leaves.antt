@@ -14,7 +14,7 @@ Leaves answered missed (Ok answer) = answered
 Leaves answered missed (Err (Fault fault)) = Unit {0}
 Leaves answered missed (Err (Absent page)) = missed page
 
--- what is not at hand behind accesses to some pages was not before, behind one to this page and those
+-- what is not at hand after accesses to some pages was not at hand before, after accesses to this page and those
 abbrev pub MissedBefore : (before after : List ℕ → Access → ℕ → Type 0) → ℕ → Type 0
 MissedBefore before after first = (pages : List ℕ) (access : Access) (page : ℕ) → after pages access page → before (first ∷ pages) access page
 
@@ -36,7 +36,7 @@ LeavesData takes before after stores (outcome.Trap cause value) = All takes stor
 LeavesData takes before after stores (outcome.Absent page) = MissedData (before []) stores page
 
 -- why an access was refused of an instruction, or of its call, whose code is at one page and which stores to these: the code's page was
--- not at hand; or its use is marked, and the data's page was not at hand behind it
+-- not at hand; or its use is marked, and the data's page was not at hand after it
 abbrev pub Missed : (marks : ℕ → Type 0) → (misses : List ℕ → Access → ℕ → Type 0) → ℕ → List ℕ → ℕ → Type 0
 Missed marks misses code stores page = ((page ≡ code) × misses [] Fetch page) ⊎ (marks code × MissedData (misses (code ∷ [])) stores page)
 

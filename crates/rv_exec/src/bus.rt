@@ -43,7 +43,7 @@ pub trait Bus {
     ghost use Rattle.rv_exec.specs.Leaves.{Leaves, MissedBefore};
     ghost use Rattle.rv_exec.specs.Uses.{page_of_access};
 
-    /// The memory that the bus stands for.
+    /// The memory that the bus represents.
     ghost memory: { Self → Memory };
 
     /// The pages that it may answer absent: those that it does not hold, mapped or not.
@@ -168,8 +168,8 @@ pub trait Bus {
             (misses self.old [] Access.Store) result }
         ensures kept { keeps self.old self.new };
 
-    /// Maps pages of zeros that may be read and written at so many page numbers from the first on, wherever
-    /// none is mapped: all of them, or none where memory is wanting, as it can be only where one is missing.
+    /// Maps readable and writable pages of zeros at so many page numbers from the first on, wherever none is mapped.
+    /// It maps all of them, or none where there is not enough memory. Memory can be lacking only where a page is missing.
     fn map_zeroed(&mut self, first: u32, count: u32) -> Result<(), AllocError>
         requires within { first + count ≤ 2 ^ 20 }
         ensures mapped { OnOk result (memory self.new ≡ with_zeroed first count (memory self.old)) }

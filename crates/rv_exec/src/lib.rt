@@ -1,7 +1,7 @@
 //! One instruction of a hart, over any bus.
 //!
 //! `execute` fetches a word at pc and does what the instruction table says of it. Memory is reached
-//! through a [`Bus`] alone, so that the same instructions run on flat and on paged memory.
+//! only through a [`Bus`], so that the same instructions run on flat and on paged memory.
 #![tactic(auto)]
 
 mod accesses;

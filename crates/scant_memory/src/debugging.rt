@@ -6,7 +6,7 @@ use flat_machine::FlatProcess;
 use std::alloc::{AllocError, Global};
 use test_guests::STORES_A_BYTE;
 
-/// Whether a debugger over flat memory stops where it is told.
+/// Whether a debugger over flat memory stops where it is asked to.
 pub(crate) fn debugs_on_flat_memory(alloc: Global) -> Result<bool, AllocError> {
     let image = image_of(alloc, STORES_A_BYTE)?;
     let process = FlatProcess::new(alloc, &image, Vec::new(alloc))?;
@@ -31,7 +31,7 @@ fn stops_as_told<T: Target>(alloc: Global, debugger: Debugger<T>) -> Result<bool
     Ok(debugger.step(0) == Err(DebugRefusal::Ended))
 }
 
-/// Why the debugger stops, again where it was refused memory: the steps before that stand.
+/// Why the debugger stops. Where it was refused memory, it goes on once more: the steps before the refusal are kept.
 fn go<T: Target>(debugger: &mut Debugger<T>, limit: u64) -> Result<Why, AllocError> {
     if let Ok((why, _, _)) = debugger.go(limit) {
         return Ok(why);
@@ -53,7 +53,7 @@ fn step<T: Target>(
     }
 }
 
-/// Whether the byte stands where it was stored.
+/// Whether the byte is where it was stored.
 fn is_stored<T: Target>(alloc: Global, debugger: &mut Debugger<T>) -> Result<bool, AllocError> {
     match debugger.mem(alloc, 0x1_1000, 4) {
         Ok(bytes) => Ok(bytes.as_slice() == [0u8, 0, 0, 5].as_slice()),

@@ -1,4 +1,4 @@
-//! Plays worked runs of the parts of the machine, and tells of each whether every answer was the right one. A call that is refused
+//! Plays worked runs of the parts of the machine, and reports for each whether every answer was right. A call that is refused
 //! memory is made again: where the refusal left what it is to leave, all answers are the same as ever.
 //! `tests/test-memory` plays this with each request for memory refused in turn.
 #![tactic(auto)]

@@ -140,7 +140,7 @@ fn goes_out<L: Ledger>(
     space.state(0x11) == Some(PageState::Away)
 }
 
-/// Whether the process ends, and its byte stands where it was stored.
+/// Whether the process ends, and its byte is where it was stored.
 fn comes_back<L: Ledger>(space: &mut Space<L, MemorySlot>) -> bool {
     if space.slice(0, 100).stop != SliceStop::Ended {
         return false;

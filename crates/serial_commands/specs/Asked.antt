@@ -1,5 +1,5 @@
--- What the commands that run images do with what they are asked for. `gives` tells, of a name, the bytes that a file of it may be found to
--- hold; `old` and `new` are what stands in the output before and after.
+-- What the commands that run images do with what they are asked for. `gives` relates a name to the bytes that a file of this name may be
+-- found to hold. `old` and `new` are the contents of the output before and after.
 use Rattle.std.specs.Prelude.{◌≡◌, ℕ, List, Option, None, map, option_map}
 use Rattle.std.specs.Io.KnownBytes.{Appends}
 use Rattle.command_line.specs.declared.request.DriveRequest.{DriveRequest}

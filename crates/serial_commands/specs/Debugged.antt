@@ -1,4 +1,4 @@
--- What a debugger that the program starts tells.
+-- What is printed by a debugger that the program starts.
 use Rattle.std.specs.Prelude.{◌≡◌, ⊤, ℕ, List, [], ◌∷◌, Option, Some, None, Result, Ok, Err, replicate}
 use Rattle.command_line.specs.declared.request.DebugRequest.{DebugRequest}
 use Rattle.elf_image.specs.Image.{ImageContent}
@@ -26,7 +26,7 @@ abbrev pub new_debugger : {T : Type 0} → (T → Process) → T → DebuggerVal
 new_debugger shown target = record { target = target; points = replicate 32 None; turn = first_turn (shown target) }
 
 -- A new debugger of a target that begins so, and shows the process that an image and an input of its own, `given`, begin, conversed over
--- lines of a dialect, with this result. `input` is what there is to read, `old` and `new` are what stands in the output before and after.
+-- lines of a dialect, with this result. `input` is what there is to read. `old` and `new` are the contents of the output before and after.
 pub record Converses (dialect : Dialect) {T : Type 0} (shown : T → Process) (limits : T → Limit → Type 0) (begins : T → Type 0) (image : ImageContent) (given : List ℕ) (input old new : Option (List ℕ)) (result : Result (Unit {0}) SessionFault) : Type 0 where
   pub target : T
   pub begun : begins target
@@ -43,7 +43,7 @@ abbrev pub ConversesOver : Dialect → Option ℕ → ImageContent → List ℕ 
 ConversesOver dialect None image given input old new result = Converses dialect {T = Process} (λ process. process) (λ process limit. ⊥) (λ process. ⊤) image given input old new result
 ConversesOver dialect (Some frames) image given input old new result = Converses dialect {T = TargetValue} shown_of Lacks (BeginsOn frames image given) image given input old new result
 
--- what is told of a conversation that came to its end, or to a bad line
+-- what is known of the result of a conversation that came to its end, or to a bad line
 abbrev pub IfLinesEnd : Result (Unit {0}) SessionFault → (Result (Unit {0}) SessionFault → Type 0) → Type 0
 IfLinesEnd (Ok done) P = P (Ok done)
 IfLinesEnd (Err (session.BadLine number)) P = P (Err (session.BadLine number))
@@ -51,7 +51,7 @@ IfLinesEnd (Err session.NoMemory) P = ⊤
 IfLinesEnd (Err session.CannotRead) P = ⊤
 IfLinesEnd (Err session.CannotWrite) P = ⊤
 
--- `gives` tells, of a name, the bytes that a file of it may be found to hold
+-- `gives` relates a name to the bytes that a file of this name may be found to hold
 pub record DebugsAsAsked (gives : List ℕ → List ℕ → Type 0) (request : DebugRequest) (input old new : Option (List ℕ)) (result : Result (Unit {0}) SessionFault) : Type 0 where
   pub image : ImageContent
   pub image_given : GivesImage gives request.image.now image

@@ -33,7 +33,7 @@ never slot = 0
 abbrev pub IsNew : ℕ → ℕ → List Start → CoreValue Slot → Type 0
 IsNew frames slots starts core = MachineBegins frames (replicate slots zero_content) starts core
 
--- a script, by its lines, on a new machine: the replies to the events above its first bad line, whose number is told
+-- a script, by its lines, on a new machine: the replies to the events above its first bad line, whose number is given
 pub record Plays (frames slots : ℕ) (starts : List Start) (lines : List (List ℕ)) (replies : List Reply) (bad_line : Option ℕ) : Type 0 where
   pub events : List Event
   pub start : CoreValue Slot
@@ -65,7 +65,7 @@ unknown slot = []
 abbrev pub failures_of : {F : Type 0} → FileSlotValue F → ℕ
 failures_of slot = slot.failures
 
--- the same on slots in files, by the names that begin with a prefix; `makes` tells under which names an open file may have been made
+-- the same on slots in files, by the names that begin with a prefix; `makes` relates a name to open files that may have been made under it
 pub record ReportsFiles {F : Type 0} (makes : List ℕ → F → Type 0) (prefix : List ℕ) (frames slots : ℕ) (starts : List Start) (slice limit : ℕ) (report : Report) : Type 0 where
   pub files : List (FileSlotValue F)
   pub made : AreNewFiles makes prefix slots files

@@ -35,7 +35,7 @@ fn play_on_ring<'a, W: Write>(
     play(&mut list, &mut entries, script, out)
 }
 
-/// Writes a reply for each call of a script. A bad line ends it behind the replies so far.
+/// Writes a reply for each call of a script. A bad line ends the play after the replies so far.
 fn play<'a, C: Clock, W: Write>(
     list: &mut C,
     entries: &mut Vec<Entry>,
@@ -56,7 +56,7 @@ fn play<'a, C: Clock, W: Write>(
     Ok(())
 }
 
-/// Makes a call, and writes the line that tells what came of it.
+/// Makes a call, and writes the line that reports its result.
 fn reply<C: Clock, W: Write>(
     list: &mut C,
     entries: &mut Vec<Entry>,
@@ -118,7 +118,7 @@ fn write_list<C: Clock, W: Write>(
     writeln!(out)
 }
 
-/// A hand, which stands on a page or, in an empty list, on none.
+/// A hand, which is at a page or, in an empty list, at none.
 #[derive(Clone, Copy)]
 struct Hand(Option<Key>);
 

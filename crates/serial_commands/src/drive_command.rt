@@ -22,7 +22,7 @@ use std::marker::Brand;
 use std::sync::ledger::{Blank, Ledger};
 
 /// Plays the script in a file on a new machine with a process for each image, and writes a reply for each event. A bad line
-/// ends it behind the replies so far.
+/// ends the play after the replies so far.
 pub fn run_drive<'a, R: Folder + AllocGlobal, W: Write>(
     rt: &R,
     request: &DriveRequest<'a>,
@@ -41,7 +41,7 @@ pub fn run_drive<'a, R: Folder + AllocGlobal, W: Write>(
     }
 }
 
-/// Plays it, and tells the number of its first bad line.
+/// Plays the script, and returns the number of its first bad line, if there is one.
 fn play_file<'a, R: Folder + AllocGlobal, W: Write>(
     rt: &R,
     request: &DriveRequest<'a>,

@@ -1,4 +1,4 @@
-//! What is told of the events of a script.
+//! What is printed for the events of a script.
 
 ghost use Rattle.std.specs.Prelude.{◌≡◌, OnOk};
 ghost use Rattle.std.specs.Io.KnownBytes.{Appends};

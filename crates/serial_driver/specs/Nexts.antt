@@ -18,7 +18,7 @@ abbrev pub AreSteps : ℕ → ℕ → ℕ → ℕ → Next → Type 0
 AreSteps process hart allowed left (Steps process' hart' most) = (process' ≡ process) × ((hart' ≡ hart) × ((0 < most) × ((most ≤ allowed) × (most ≤ max left 1))))
 AreSteps process hart allowed left (Event event) = ⊥
 
--- whether an event is an instruction of a hart; one that comes next alone is none
+-- whether an event is an instruction of a hart; what comes next is such instructions, or one event of another kind
 abbrev pub is_step : machine.Event → Bool
 is_step (Step process hart) = true
 is_step _ = false

@@ -66,7 +66,7 @@ abbrev pub is_mapped : Reply → Bool
 is_mapped reply.Mapped = true
 is_mapped _ = false
 
--- A process whose schedule is full, or for which memory is wanting, is ended for that. One that does not go on gives back what it has.
+-- A process is ended where its schedule is full or there is not enough memory for it. One that does not go on gives back what it has.
 abbrev pub stop_owes : ℕ → Reply → Option Event
 stop_owes process answer =
     if is_full answer then Some (Kill process cause.ScheduleFull) else (if is_out_of_memory answer then Some (Kill process cause.NoMemory) else Some (Purge process))
@@ -78,7 +78,7 @@ step_owes process answer = if is_going_on answer then None else stop_owes proces
 abbrev pub step_faults : Reply → ℕ → ℕ
 step_faults answer faults = if is_absent answer then 0 else faults
 
--- where memory is wanting to list a page, its process is ended for that
+-- where there is not enough memory to list a page, its process is ended for that
 abbrev pub save_owes : ℕ → Reply → Option Event
 save_owes process answer = if is_out_of_memory answer then Some (Kill process cause.NoMemory) else None
 

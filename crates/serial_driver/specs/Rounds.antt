@@ -26,12 +26,12 @@ module _ {S : Type 0} where
     pub live : lives_in core process hart ≡ true
     pub least : (other : ℕ) → other < hart → IsAbove last other → lives_in core process other ≡ false
 
-  -- a process goes on, and none does that stands from one number on and below it
+  -- a process goes on, and none of those does that are from one number on and below it
   pub record GoesOnFirst (core : CoreValue S) (from process : ℕ) : Type 0 where
     pub goes : goes_on (slice_get core.processes process) ≡ true
     pub others : (other : ℕ) → from ≤ other → other < process → HasEnded core other
 
-  -- the next process that goes on behind one: the first above it, and where none is above it the first of all
+  -- the next process that goes on after one: the first above it, and where none is above it the first of all
   abbrev pub IsNextProcess : CoreValue S → ℕ → ℕ → Type 0
   IsNextProcess core last process =
       ((last < process) × GoesOnFirst core (last + 1) process) ⊎ (((other : ℕ) → last < other → HasEnded core other) × GoesOnFirst core 0 process)
@@ -41,8 +41,8 @@ module _ {S : Type 0} (honest : Type 0) where
   abbrev pub IsFirst : CoreValue S → ℕ → ℕ → Type 0
   IsFirst core process hart = IsLeastAbove core process None hart ⊎ ((honest → ⊥) × ((hart ≡ 0) × NoneAbove core process None))
 
-  -- The hart whose turn is next behind the last one of a process, if there was one: the least live one above it there. Where none is, it is the
-  -- least live one of the next process that goes on.
+  -- The hart whose turn is next after the last one of a process, if there was one: the least live one above it there. Where none is, it
+  -- is the least live one of the next process that goes on.
   abbrev pub IsNextHart : CoreValue S → ℕ → Option ℕ → ℕ → ℕ → Type 0
   IsNextHart core process last next hart =
       ((next ≡ process) × IsLeastAbove core process last hart) ⊎ (NoneAbove core process last × (IsNextProcess core process next × IsFirst core next hart))

@@ -71,9 +71,9 @@ abbrev pub serving : ℕ → ℕ → Duty
 serving process hart = record { faults = 0; owed = None; turn = record { slice = 1; process = process; hart = hart; left = 1; wanted = 0; phase = RunsOn } }
 
 module _ {S : Type 0} (held : S → List ℕ) (honest : Type 0) (failures : S → ℕ) where
-  -- Why an instruction is given up behind events of a run with these replies, of which this is owed then: the run ends a process next for a
-  -- page that can't be had, or has one give back what it has; or the last event was refused, and not for want of memory; or each process
-  -- has ended.
+  -- Why an instruction is given up after events of a run with these replies, where this is owed then. The run next ends a process for a
+  -- page that can't be had, or makes one give back what it has; or the last event was refused, and not for lack of memory; or each
+  -- process has ended.
   pub data GivesUpFor (duty : Duty) (spent : Option ℕ) (replies : List Reply) (core : CoreValue S) : Type 0 where
     ends : (event : Event) → next_owed duty.owed spent ≡ Some event → is_giving_up event ≡ true → GivesUpFor duty spent replies core
     refuses : (before : List Reply) (why : EventRefusal) → replies ≡ before ++ Refused why ∷ [] → why ≢ refusal.NoMemory → GivesUpFor duty spent replies core
@@ -102,8 +102,8 @@ module _ {S : Type 0} (held : S → List ℕ) (honest : Type 0) (failures : S �
   Proceeds process hart (Some served.Full) most tried duty spent old new patience left = PlaysWith held honest failures most tried duty spent 1 old new patience left
   Proceeds process hart (Some served.NoMemory) most tried duty spent old new patience left = PlaysWith held honest failures most tried duty spent 1 old new patience left
 
-  -- A hart's instruction is given up where a run of it alone would end its process for a page, or can't go on; or once 2^64 - 1 events
-  -- have happened.
+  -- A hart's instruction is given up where a run of only that instruction would end its process for a page, or can't go on; or once
+  -- 2^64 - 1 events have happened.
   abbrev pub GivesUp : ℕ → ℕ → CoreValue S → CoreValue S → Type 0
   GivesUp process hart old new =
       GivesUpFrom (tries_per_frame * old.pager.pager.size) (λ _. 0) (serving process hart) None old new

@@ -53,7 +53,7 @@ module _ {S : Type 0} (held : S → List ℕ) (honest : Type 0) (failures : S �
     pub all : over ≡ false → count ≡ most
     pub ended : over ≡ true → (number : ℕ) → HasEnded new number
 
-  -- why a run ends behind so many events: the process has done so many steps; or each process has ended; or so many events came
+  -- why a run ends after so many events: the process has done so many steps; or each process has ended; or so many events came
   -- and none was a step of this process that was still to be done, and it is ended for want of a place for its pages
   pub data Over (process limit count : ℕ) (played new : CoreValue S) : Type 0 where
     Reached : new ≡ played → limit ≤ steps_at process new → Over process limit count played new

@@ -8,9 +8,9 @@ use Rattle.machine_core.specs.declared.event.Reply.{Reply}
 use Rattle.machine_core.specs.declared.event.Reply.TheVariants as reply
 use Rattle.serial_driver.specs.Rounds.{IsLeastAbove, IsNextHart, NoneAbove}
 
--- A turn begins with the first instruction of a hart, the next one behind the last that had a turn, if one had; that hart runs on; its turn
+-- A turn begins with the first instruction of a hart, the next one after the last that had a turn, if one had. That hart runs on. Its turn
 -- is over, and it drops its translations; or it waits for the page that its last step found absent, or is gone. While it waits, the live
--- harts of a victim's process drop theirs one after another, each told as the last, and then the victim is looked at.
+-- harts of a victim's process drop theirs one after another, each recorded as the last, and then the victim is looked at.
 pub data Phase : Type 0 where
   Begins : Option ℕ → Phase
   Runs : Phase

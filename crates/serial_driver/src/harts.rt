@@ -82,8 +82,8 @@ fn is_above(last: Option<u32>, number: u32) -> bool
     }
 }
 
-/// The hart whose turn is next behind the last one of a process, if there was one: the least live one above it there, else the
-/// least of the next process that goes on, in those above and then in those from the first on. There is none once each process
+/// The hart whose turn is next after the last one of a process, if there was one. It is the least live one above it there, else the
+/// least of the next process that goes on, among those above and then among those from the first on. There is none once each process
 /// has ended.
 pub(crate) fn next_hart<L: Ledger, S: SwapSlot, C: Clock>(
     core: &Core<L, S, C>,

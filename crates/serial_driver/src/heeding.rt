@@ -135,7 +135,7 @@ impl Turns {
         self.stage = Stage::Purge { process };
     }
 
-    /// The hart that is next behind the one that had the slice has a slice of its own.
+    /// The hart that is next after the one that had the slice gets a slice of its own.
     fn choose(&mut self)
         ensures { duty_of self.new ≡ record {
           faults = self.old.load_faults;

@@ -1,4 +1,4 @@
-//! A machine that is played and told: whether it is sound, and its report.
+//! Plays a machine, and reports on it: whether it is sound, and what it has come to.
 
 ghost use Rattle.std.specs.Prelude.{◌≡◌, ◌↔◌, ◌≤◌, ℕ, [], IfOk, IsErrOf, IsTrue, List, max, true};
 ghost use Rattle.std.specs.Prelude.{vec_capacity};
@@ -22,7 +22,7 @@ use std::sync::ledger::Ledger;
 use swap_slots::SwapSlot;
 use thiserror::Error;
 
-/// Why there is no report of a run: memory is wanting.
+/// Why there is no report of a run: there was not enough memory.
 #[derive(Clone, Copy, PartialEq, Eq, Debug, Error)]
 pub enum NoReport {
     /// For the report's list: nothing was done.
@@ -33,7 +33,7 @@ pub enum NoReport {
     RunDone,
 }
 
-/// Plays a machine as [`play`] does, and tells what it has come to.
+/// Plays a machine as [`play`] does, and reports what it has come to.
 #[tactic(auto, using(machine_core::proofs::ApplyingLaws::reaches_same))]
 pub fn run_serial<L: Ledger, S: SwapSlot, C: Clock>(
     alloc: Global,
@@ -48,7 +48,7 @@ pub fn run_serial<L: Ledger, S: SwapSlot, C: Clock>(
     ensures kept { IsErrOf result NoReport.NothingDone → core.new ≡ core.old }
     ensures report { IfOk result (λ report. Reports core.new report) }
 
-    // Of a machine that has just begun, each line tells of a flat run of the image and the input that its process was given.
+    // Where the machine has just begun, each line represents a flat run of the image and the input that its process was given.
     ensures flat { IfOk result (λ report. (frames : ℕ) → (free : List S) → (starts : List Start) →
         MachineBegins frames free starts core.old → S.honest → StandsForRuns starts report) }
 {

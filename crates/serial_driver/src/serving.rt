@@ -63,7 +63,7 @@ pub fn serve_step<L: Ledger, S: SwapSlot, C: Clock>(
     ServedStep::Absent
 }
 
-/// Does what comes next for a hart, and tells what has come of its instruction where that is settled.
+/// Does what comes next for a hart, and returns what has come of its instruction where that is settled.
 fn serve_next<L: Ledger, S: SwapSlot, C: Clock>(
     core: &mut Core<L, S, C>,
     turns: &mut Turns,

@@ -37,7 +37,7 @@ pub fn play_steps<L: Ledger, S: SwapSlot, C: Clock>(
         limited_at number core.new ≡ false }
     ensures reached { LeadsTo S.content S.honest S.failures core.old core.new }
 
-    // Of a machine that has just begun, each process tells of a flat run of the image and the input that it was given.
+    // Where the machine has just begun, each process represents a flat run of the image and the input that it was given.
     ensures flat { (frames : ℕ) → (free : List S) → (starts : List Start) →
         MachineBegins frames free starts core.old → S.honest →
         HaveLines starts (map come_to core.new.processes) }
@@ -93,7 +93,7 @@ fn is_stuck<L: Ledger, S: SwapSlot, C: Clock>(
     false
 }
 
-/// Does what comes next until so many events have happened, and tells whether each process has ended before.
+/// Does what comes next until so many events have happened, and returns whether each process has ended before.
 fn go_on<L: Ledger, S: SwapSlot, C: Clock>(
     core: &mut Core<L, S, C>,
     turns: &mut Turns,

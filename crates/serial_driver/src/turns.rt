@@ -19,7 +19,7 @@ use swap_slots::SwapSlot;
 /// What the driver is about to do.
 #[derive(Clone, Copy)]
 pub(crate) enum Stage {
-    /// The next hart gets a slice: behind this one of the process that had the last turn, if one has had a turn.
+    /// The next hart gets a slice: the one after this one of the process that had the last turn, if one has had a turn.
     Choose(Option<u32>),
     /// The hart runs its next instruction.
     Run,
@@ -189,7 +189,7 @@ impl Turns {
     }
 }
 
-/// The next live hart of the victim's process, behind the last that did, drops its translations, or the victim is collected.
+/// The next live hart of the victim's process, after the last that did, drops its translations, or the victim is collected.
 fn clear<L: Ledger, S: SwapSlot, C: Clock>(
     core: &Core<L, S, C>,
     victim: Key,

@@ -22,7 +22,7 @@ use machine_core::{Core, Event, Reply};
 use std::sync::ledger::Ledger;
 use swap_slots::SwapSlot;
 
-/// A run of the driver, of which each event is told as it happens.
+/// A run of the driver that returns each event as it happens.
 #[derive(Drop)]
 pub struct SerialRun {
     turns: Turns,
@@ -49,7 +49,7 @@ impl SerialRun {
         }
     }
 
-    /// Applies the event that comes next, and tells it with the reply to it: `None` once each process has ended, or so many events
+    /// Applies the event that comes next, and returns it with its reply. It returns `None` once each process has ended, or so many events
     /// have happened. Then the machine is as it was, and [`SerialRun::close`] is left to be done.
     pub fn next<L: Ledger, S: SwapSlot, C: Clock>(
         &mut self,

@@ -1,4 +1,4 @@
-//! What a process begins with, where several hold it: the pages of an image and an input. They stand once, and are read alone.
+//! The initial data of a process, for several holders: the pages of an image and an input. There is one copy, which is only read.
 #![tactic(auto)]
 
 mod shared_bytes;

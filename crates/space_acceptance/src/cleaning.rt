@@ -34,7 +34,7 @@ const BEGINS: [(Call, Answer); 4] = [
     (Call::BeginClean(0x11), Answer::Done),
 ];
 
-/// And a copy of it goes out behind the notice.
+/// A copy of the page goes out after the notice.
 const COPIES: [(Call, Answer); 4] = [
     (Call::CopyClean(0x11), Answer::NotYet),
     (Call::TakeNotices(0), Answer::Done),
@@ -104,7 +104,7 @@ fn a_page_is_not_cleaned_without_a_slot(rt: HostRuntime) {
     );
 }
 
-/// A store through a translation that is to be dropped holds the copy up, and one behind the copy spoils it.
+/// A store through a translation that is to be dropped delays the copy. A store after the copy invalidates it.
 #[test]
 fn a_store_spoils_a_copy(rt: HostRuntime) {
     let alloc = rt.alloc();

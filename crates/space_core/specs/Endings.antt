@@ -64,7 +64,7 @@ module _ {S : Type 0} (held : S → List ℕ) (honest : Type 0) (hart : ℕ) whe
   with_last count None = count
   with_last count (Some last) = count + last.0
 
-  -- so many instructions of a hart were done, behind them the last one ended, and all that ran are recorded
+  -- so many instructions of a hart were done, after them the last one ended, and all that ran are recorded
   pub record RunsRecorded (count : ℕ) (last : Option (ℕ × SliceStop)) (old new : RecordedValue) (memory memory' : PagedValue S) : Type 0 where
     pub between : RunningValue
     pub before : PagedValue S

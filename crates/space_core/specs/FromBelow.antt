@@ -24,7 +24,7 @@ module _ {S : Type 0} (hart : ℕ) where
     pub leaves : LeavesStep (TakesSince after (cache_in before hart)) (UsedSince hart after (cache_in before hart)) (MissesIn before hart) (page_number registers.pc) (next_stores hart process) result
 
   -- why the step's access to a page was refused: it was the fetch, and the hart's cache did not show the page; or the use of the code's
-  -- page is marked, and the cache did not show the page of the data behind the fetch, which fills no translation but of the code's page
+  -- page is marked, and the cache did not show the data's page after the fetch, which fills only a translation of the code's page
   pub record MissesNext (process : Process) (before after : PagedValue S) (page : ℕ) : Type 0 where
     pub registers : Registers
     pub are : hart_registers hart process ≡ Some registers

@@ -30,7 +30,7 @@ module _ {S : Type 0} (held : S → List ℕ) (honest : Type 0) (hart : ℕ) whe
   RunsEach zero regs old regs' new = (regs' ≡ regs) × (new ≡ old)
   RunsEach (suc n) regs old regs' new = (between : Registers × PagedValue S) × (RunsEach n regs old between.0 between.1 × RunsTo Done between.0 between.1 regs' new)
 
-  -- fewer than were allowed, and behind them one that came to something else
+  -- fewer than were allowed, and after them one that came to something else
   pub record RunsShort (most count : ℕ) (outcome : Outcome) (regs : Registers) (old : PagedValue S) (regs' : Registers) (new : PagedValue S) : Type 0 where
     pub fewer : count < most
     pub between : PagedValue S

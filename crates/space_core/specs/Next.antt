@@ -45,7 +45,7 @@ next_pages hart process = unwrap_or (option_map (λ registers. step_pages hart r
 unfoldable pub next_stores : ℕ → Process → List ℕ
 next_stores hart process = unwrap_or (option_map (λ registers. step_stores hart registers process.memory) (hart_registers hart process)) []
 
--- of how many instructions all pages were there: those that ran, and the next where memory was wanting for it
+-- the number of instructions whose pages were all there: those that ran, and the next where there was not enough memory for it
 abbrev pub answered : SliceStop → ℕ → ℕ
 answered stop.Budget ran = ran
 answered (stop.Absent page) ran = ran
@@ -56,7 +56,7 @@ answered stop.NoHart ran = ran
 answered stop.ScheduleFull ran = ran
 answered stop.NoMemory ran = ran + 1
 
--- how many were begun: those that ran, and the next where a page of it is absent or memory was wanting for it
+-- how many were begun: those that ran, and the next where a page of it is absent or there was not enough memory for it
 abbrev pub begun : SliceStop → ℕ → ℕ
 begun stop.Budget ran = ran
 begun (stop.Absent page) ran = ran + 1

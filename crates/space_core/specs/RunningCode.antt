@@ -1,4 +1,4 @@
--- A process beside its memory, as a value that proofs can tell from others.
+-- A process without its memory, as a value that proofs can distinguish from others.
 use Rattle.std.specs.Prelude.{List, Option, refl}
 use Rattle.std.specs.Coded.{Coded, code_by, coded×, coded_option, coded_list}
 use Rattle.rv_exec.specs.Registers.{Registers}

@@ -19,8 +19,8 @@ shown_process held space = with_memory space.running (memory_of held space.memor
 abbrev pub OthersStay : {S : Type 0} → ℕ → PagedValue S → PagedValue S → Type 0
 OthersStay hart old new = (h : ℕ) → h ≢ hart → SameCache h old new
 
--- a hart that goes on has translations of pages alone that it had or that are resident; none more is to be dropped, and none went
--- but to make room or for a newer one of its page, which carries the page's D
+-- a hart that goes on has translations only of pages that it had or that are resident; no further one is to be dropped; one went only
+-- to make room or for a newer one of its page, which carries the page's D
 pub record GoesOnWith {S : Type 0} (hart : ℕ) (old new : PagedValue S) : Type 0 where
   pub held : (page : ℕ) → holds_in new hart page ≡ true → HasIn old hart page
   pub goes : GoesOnIn hart old new
@@ -48,9 +48,9 @@ LeavesCaches NoHart hart old new = SettlesCaches NoHart hart old new
 LeavesCaches ScheduleFull hart old new = SettlesCaches ScheduleFull hart old new
 LeavesCaches NoMemory hart old new = SettlesCaches NoMemory hart old new
 
--- what a slice keeps: the image and the input, and whether pages were given back; the pages, but for the bytes in their frames and pages of zeros that were
--- mapped; which pages have a table; no page's A or D falls; a copy of a page that is out and stood stands, unless the page's D tells
--- of a store; and each hart has its cache
+-- what a slice keeps: the image and the input, and whether pages were given back; the pages, except the bytes in their frames and pages
+-- of zeros that were mapped; which pages have a table; no page's A or D is cleared; a valid copy that is out stays valid, unless its
+-- page's D reports a store; and each hart has its cache
 pub record KeepsSpace {S : Type 0} (hart : ℕ) (stop : SliceStop) (old new : SpaceValue S) : Type 0 where
   pub image : new.image ≡ old.image
   pub input : new.input ≡ old.input

@@ -1,4 +1,4 @@
--- A process on paged memory stands for a flat process: the one that the flat run of its schedule leaves.
+-- A process on paged memory represents a flat process: the one that the flat run of its schedule leaves.
 use Rattle.std.specs.Prelude.{◌≡◌, ℕ, Bool, Option, Some, None, List, length}
 use Rattle.page_memory.specs.Memory.{Memory}
 use Rattle.elf_image.specs.Image.{ImageContent}
@@ -37,7 +37,7 @@ abbrev pub flat_with : RunningValue → Memory → Process
 flat_with running memory = with_memory (record running { ending = own_ending running.ending }) memory
 
 module _ {S : Type 0} where
-  -- with slots that hold this, it stands for the flat process with this memory: the schedule's run leaves that process, its memory
+  -- with slots that hold this, it represents the flat process with this memory: the schedule's run leaves that process, its memory
   -- shows that memory, and until an ending no page is given up
   pub record StandsFor (held : S → List ℕ) (space : SpaceValue S) : Type 0 where
     pub memory : Memory
@@ -49,7 +49,7 @@ module _ {S : Type 0} where
   abbrev pub OfFlat : Type 0 → (Process → Type 0) → SpaceValue S → Type 0
   OfFlat honest P space = honest → (flat : Process) → flat_run (written_out space.schedule) (opening space.image space.input) ≡ Some flat → P flat
 
-  -- where slots are honest it stands for a flat process, and each hart that was started has its cache
+  -- where slots are honest it represents a flat process, and each hart that was started has its cache
   pub record IsSpace (held : S → List ℕ) (honest : Type 0) (space : SpaceValue S) : Type 0 where
     pub stands : honest → StandsFor held space
     pub cached : harts_in space.memory ≡ length space.running.harts

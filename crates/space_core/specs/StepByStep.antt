@@ -50,7 +50,7 @@ module _ {S : Type 0} (held : S → List ℕ) (honest : Type 0) (hart : ℕ) whe
     pub on : StepsOn count old between
     pub at_last : StepsLast last between new
 
-  -- how a slice of so many at the most ends: all that were allowed went on, or behind those that did one stops
+  -- how a slice of at most so many instructions ends: all that were allowed went on, or one stops after those that did
   abbrev pub SliceEnds : ℕ → ℕ → Option (ℕ × SliceStop) → ℕ → SliceStop → Type 0
   SliceEnds budget on None ran why = (on ≡ budget) × (ran ≡ on) × (why ≡ Budget)
   SliceEnds budget on (Some last) ran why = (on < budget) × (ran ≡ on + last.0) × (why ≡ last.1) × (why ≢ Budget)

@@ -30,7 +30,7 @@ const UNDECODED: u32 = 256;
 pub(crate) struct Course {
     /// How many were done.
     pub done: u32,
-    /// What the one behind them came to, where there were fewer than were allowed: that one is still to be ended.
+    /// What the next one came to, where fewer were done than were allowed: that one is still to be ended.
     pub last: Outcome,
 }
 

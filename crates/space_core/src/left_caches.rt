@@ -25,7 +25,7 @@ pub(crate) fn add_harts<L: Ledger, S: SwapSlot>(memory: &mut PagedMemory<L, S>, 
     }
 }
 
-/// Drops the translations that a hart leaves behind where it stops so.
+/// Drops the translations that are not kept where a hart stops for this reason.
 #[tactic(auto, using(paged_memory::proofs::access_laws::UsingLaws::emptied_each, paged_memory::proofs::access_laws::UsingLaws::cleared_own))]
 pub(crate) fn settle_caches<L: Ledger, S: SwapSlot>(
     memory: &mut PagedMemory<L, S>,

@@ -34,8 +34,8 @@ impl<L: Ledger, S: SwapSlot> Space<L, S> {
         self.memory.begin_clean(vpn, ended)
     }
 
-    /// Copies a page that is being cleaned, unless a store was made since the cleaning began, or a cache lets one be made that
-    /// no dirty bit would tell of. A page without a slot takes the spare one. No page of a process that has ended is being
+    /// Copies a page that is being cleaned, unless a store was made since the cleaning began, or a cache allows a store that
+    /// no dirty bit would show. A page without a slot takes the spare one. No page of a process that has ended is being
     /// cleaned. Takes no memory.
     #[tactic(auto, using(paged_memory::proofs::cleaning_laws::CopiesToldLaws::leaves_itself))]
     pub fn copy_clean(&mut self, vpn: u32, spare: &mut Option<S>) -> CleanCopy<S>

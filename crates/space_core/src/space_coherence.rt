@@ -11,8 +11,8 @@ use std::sync::ledger::Ledger;
 use swap_slots::SwapSlot;
 
 impl<L: Ledger, S: SwapSlot> Space<L, S> {
-    /// What holds of it between any two calls: it stands for a flat process where slots are honest, and its pages, tables
-    /// and caches go together. It does nothing.
+    /// What holds of it between any two calls: it represents a flat process where slots are honest, and its pages, tables
+    /// and caches are consistent. It does nothing.
     pub fn coherent(&self)
         ensures stands { S.honest → StandsFor S.content self.now }
         ensures harts { harts_in self.now.memory ≡ length self.now.running.harts }

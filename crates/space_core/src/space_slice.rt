@@ -47,9 +47,9 @@ impl<L: Ledger, S: SwapSlot> Space<L, S> {
 
     /// Runs up to so many instructions of a hart, and records each.
     ///
-    /// It stops early for a page that has to be brought in, a yield, the end of the hart or of the process, where the
-    /// schedule takes no more instructions of the hart, and for want of memory; of several reasons the first of: ended,
-    /// no such live hart, schedule full, the next instruction's. With no instruction allowed it stops for that alone.
+    /// It stops early for a page that has to be brought in, a yield, the end of the hart or of the process, a schedule that
+    /// takes no more instructions of the hart, or lack of memory. Of several reasons it gives the first of: ended, no such live
+    /// hart, schedule full, the next instruction's. With no instruction allowed, the budget is the only reason.
     ///
     /// A hart that does not go on drops its translations, and so do all where the process ended.
     pub fn slice(&mut self, hart: u32, budget: u32) -> Slice

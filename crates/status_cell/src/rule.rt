@@ -1,4 +1,4 @@
-//! The rule of the cell, and what each atomic step tells: a publication, a look, and a viewer's view cut in two or joined.
+//! The rule of the cell, and what each atomic step shows: a publication, a look, and a viewer's view cut in two or joined.
 ghost use Rattle.std.specs.Prelude.{◌≡◌};
 ghost use Rattle.status_cell.specs.Counts.{AtMost, most, nothing};
 ghost use Rattle.status_cell.specs.Views.{NoneAbove, view_of};

@@ -49,7 +49,7 @@ impl Viewer {
         self.cell.load_as::<Look, R>(rt, &mut self.pass)
     }
 
-    /// Another viewer of the same cell, which has then seen what this one had. Where memory is wanting there is none.
+    /// Another viewer of the same cell, which has then seen what this one had. Fails if there is not enough memory.
     pub fn split(&mut self) -> Result<Viewer, AllocError>
         ensures same { self.new ≡ self.old }
         ensures split { IfOk result (λ other. other ≡ self.old) }

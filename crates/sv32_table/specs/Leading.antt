@@ -1,4 +1,4 @@
--- Where walks lead: by the manual's process over the words that tables stand for, which for a tree is where the page's entry says.
+-- Where walks lead, by the manual's process over the words that tables represent. For a tree this is where the page's entry says.
 use Rattle.std.specs.Prelude.{◌≡◌, ℕ, ◌/◌, ◌^◌, ◌<◌, List, Result}
 use Rattle.std.specs.Result.{result_map_both}
 use Rattle.page_memory.specs.declared.words.Access.{Access}

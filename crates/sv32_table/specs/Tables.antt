@@ -1,4 +1,4 @@
--- The tables of a process: table k, of 1024 words, stands in physical page 0x200000 + k, and the root is table 0. Here
+-- The tables of a process: table k, of 1024 words, is in physical page 0x200000 + k, and the root is table 0. Here
 -- each call is a function on the list of tables; `TranslationProcess` has the walk over physical memory, in the
 -- manual's steps.
 use Rattle.std.specs.Prelude.{◌≡◌, ℕ, ◌+◌, ◌-◌, ◌*◌, ◌/◌, ◌%◌, ◌<◌, ◌≤◌, Bool, true, false, ◌&&◌, ◌||◌, not, nat_le, nat_lt, if◌then◌else◌, List, [], ◌∷◌, ◌++◌, length, replicate, slice_index, slice_index_or, slice_set, Option, Some, None, Result, Ok, Err}
@@ -12,7 +12,7 @@ use Rattle.sv32_table.specs.declared.fault.WalkFault.TheVariants.{PageFault, Acc
 use Rattle.sv32_table.specs.declared.walk.LeafPlace.{LeafPlace}
 use Rattle.sv32_table.specs.declared.walk.Leaf.{Leaf as Translation}
 
--- the number of the physical page in which the root stands, and the other tables behind it; and how many there may be
+-- the number of the root's physical page, which the pages of the other tables follow; and how many tables there may be
 abbrev pub root_page : ℕ
 root_page = 0x200000
 
@@ -53,7 +53,7 @@ walk_end tables address =
     let root = entry_of (word_in tables 0 (address / 0x400000)) in
     root_step tables address root (shape_of root)
 
--- the physical address: a level-1 leaf gives the upper ten bits of the number alone (step 8)
+-- the physical address: a level-1 leaf gives only the upper ten bits of the number (step 8)
 unfoldable pub physical_of : Bool → ℕ → ℕ → ℕ
 physical_of true ppn address = ppn / 1024 * 0x400000 + address % 0x400000
 physical_of false ppn address = ppn * 0x1000 + address % 0x1000
@@ -95,7 +95,7 @@ table_for tables vpn =
 unfoldable pub zero_table : List ℕ
 zero_table = replicate 1024 0
 
--- the tables with a new one behind them, to which this root entry points
+-- the tables with a new one after them, to which this root entry points
 unfoldable pub with_table : List (List ℕ) → ℕ → List (List ℕ)
 with_table tables index = with_word (tables ++ zero_table ∷ []) 0 index (word_of (pointer_entry (root_page + length tables)))
 

@@ -24,8 +24,8 @@ vpn_1 address = address / 0x400000
 abbrev pub vpn_0 : ℕ → ℕ
 vpn_0 address = address / 0x1000 % 1024
 
--- what a successful walk comes to: the physical address, the leaf as it is then, and the address of its word, which
--- alone changes
+-- what a successful walk gives: the physical address, the leaf as it is then, and the address of its word, which
+-- is the only word that changes
 pub record Success : Type 0 where
   pub physical : ℕ
   pub entry : Entry
@@ -57,7 +57,7 @@ entry_0 address access at e Invalid = Err PageFault
 entry_0 address access at e Leaf = leaf_0 address access at e
 entry_0 address access at e Pointer = Err PageFault
 
--- step 2 at level 0: where no word stands, the access is refused
+-- step 2 at level 0: where there is no word, the access is refused
 unfoldable pub word_0 : ℕ → Access → ℕ → Option ℕ → Result Success WalkFault
 word_0 address access at None = Err AccessFault
 word_0 address access at (Some word) = entry_0 address access at (entry_of word) (shape_of (entry_of word))
@@ -88,17 +88,17 @@ FollowsProcess (Ok success) old result new =
     (result ≡ Ok (record { pte = record { 0 = word_of success.entry }; physical = success.physical })) × (new ≡ insert old success.at (word_of success.entry))
 FollowsProcess (Err fault) old result new = (result ≡ Err fault) × (new ≡ old)
 
--- the words of a table that stands at an address
+-- the words of a table at an address
 abbrev pub row : ℕ → List ℕ → List (ℕ × ℕ)
 row address [] = []
 row address (word ∷ words) = (address, word) ∷ row (address + 4) words
 
--- the words of tables that stand in physical pages from this one on
+-- the words of tables that are in physical pages from this one on
 abbrev pub rows : ℕ → List (List ℕ) → List (ℕ × ℕ)
 rows ppn [] = []
 rows ppn (table ∷ tables) = row (ppn * 0x1000) table ++ rows (ppn + 1) tables
 
--- the physical memory that the tables of a process stand for
+-- the physical memory that the tables of a process represent
 unfoldable pub physical_words : List (List ℕ) → Words
 physical_words tables = from_entries (rows root_page tables)
 

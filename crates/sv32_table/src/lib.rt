@@ -1,7 +1,7 @@
 //! Sv32 page tables (privileged manual, "Sv32: Page-Based 32-bit Virtual-Memory Systems"), walked in user mode.
 //!
 //! `Tables` may hold any words, as `set` writes them, and its walk is the manual's over them. `PageTables` are those that
-//! mapping alone makes: they form a tree, and its contracts speak of each page's entry.
+//! only mapping makes: they form a tree, and the contracts describe each page's entry.
 #![tactic(auto)]
 
 mod fault;

@@ -62,7 +62,7 @@ impl PageTables {
         self.tables.walk(address, access)
     }
 
-    /// What the manual's process makes of the words that the tables stand for: each access leads where its page's entry says.
+    /// The manual's process over the words that the tables represent: each access leads where its page's entry says.
     /// It does nothing.
     #[tactic(auto, using(crate::proofs::TreeCalls::leads_by_entry))]
     pub fn translates(&self)

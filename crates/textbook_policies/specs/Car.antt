@@ -1,7 +1,7 @@
--- CAR: Sorav Bansal and Dharmendra S. Modha, "CAR: Clock with Adaptive Replacement", FAST 2004, figure 2. Lines of its pseudo-code stand
--- beside the equations, with its authors' names: T1 and T2 are clocks of the pages in frames, B1 and B2 lists of pages that left them. A
--- clock is told from its tail to its head, which the hand looks at next and which stands last; in B1 and B2 the most recently used page
--- stands first. The target p is theirs but for one thing: it is a whole number here, and a quotient of lengths is rounded down.
+-- CAR: Sorav Bansal and Dharmendra S. Modha, "CAR: Clock with Adaptive Replacement", FAST 2004, figure 2. Lines of its pseudo-code are
+-- beside the equations. The names are the authors': T1 and T2 are clocks of the pages in frames, B1 and B2 are lists of pages that left
+-- them. A clock is listed from its tail to its head, which is last and which the hand looks at next. B1 and B2 begin with the most
+-- recently used page. The target p differs from theirs in one thing: it is a whole number, and a quotient of lengths is rounded down.
 use Rattle.std.specs.Prelude.{ℕ, zero, suc, ◌+◌, ◌-◌, ◌*◌, ◌/◌, ◌==◌, Bool, true, false, cond, nat_lt, nat_le, min, max, List, [], length, Option, Some, None}
 use Rattle.std.specs.HashSet.{contains}
 use Rattle.clock_policy.specs.declared.key.Key.{Key}

@@ -12,7 +12,7 @@ use Rattle.page_policies.specs.NextUses.{known}
 use Rattle.textbook_policies.specs.declared.g_clock_counts.GClockCounts.{GClockCounts}
 use Rattle.textbook_policies.specs.declared.g_clock.GClock.{GClock}
 
--- The pages, the one at the hand last and those behind the hand first, and their counts.
+-- The pages and their counts. The page at the hand is last, and the page that the hand reaches last is first.
 pub record GClockState : Type 0 where
   pub pages : List Key
   pub count : Key → ℕ

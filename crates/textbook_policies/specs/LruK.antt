@@ -1,7 +1,7 @@
 -- LRU-K: Elizabeth J. O'Neil, Patrick E. O'Neil and Gerhard Weikum, "The LRU-K Page Replacement Algorithm for Database Disk Buffering",
 -- SIGMOD 1993, section 2. The page leaves whose last use but K - 1 is longest ago. Pages with fewer uses than K go first, of these the
 -- one whose last use is longest ago (definition 2.2, with LRU as the subsidiary policy that it proposes). Lines of their pseudo-code (figure
--- 2.1) stand beside the equations. The Correlated Reference Period is 0, and history is retained of each page of the string.
+-- 2.1) are beside the equations. The Correlated Reference Period is 0, and history is retained of each page of the string.
 use Rattle.std.specs.Prelude.{ℕ, ◌+◌, ◌-◌, Bool, cond, nat_lt, List, [], ◌∷◌, ◌++◌, Vec, length, drop, slice_get, Option, Some, None}
 use Rattle.std.specs.HashMap.{get}
 use Rattle.clock_policy.specs.declared.key.Key.{Key}

@@ -14,7 +14,7 @@ recent_of (q ∷ qs) = Some q
 abbrev pub room_made : ℕ → List Key → List Key
 room_made m s = cond (nat_lt (length s) m) s (drop 1 s)
 
--- The page that was used last stands first; where each frame has a page, the one that stood first leaves.
+-- The list begins with the page that was used last. Where each frame has a page, the page that was first leaves.
 abbrev pub mru : ℕ → Key → List Key → List Key
 mru m p s = cond (holds p s) (to_front p s) (p ∷ room_made m s)
 

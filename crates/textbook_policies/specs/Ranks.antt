@@ -39,7 +39,7 @@ placed r s = insert_key rank_cmp s r
 abbrev pub room_made : ℕ → List Ranked → List Ranked
 room_made m s = cond (nat_lt (length s) m) s (drop 1 s)
 
--- no page stands twice
+-- no page occurs twice
 abbrev pub Apart : List Ranked → Type 0
 Apart [] = ⊤
 Apart (x ∷ xs) = (rank_in (page_of x) xs ≡ None) × Apart xs

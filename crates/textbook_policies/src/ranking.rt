@@ -157,7 +157,7 @@ impl Ranking {
         let_go(&mut self.order, &mut self.ranks, page, rank);
     }
 
-    /// Takes the page out, and tells its rank if it was there.
+    /// Takes the page out, and returns its rank if it was there.
     #[tactic(auto, using(crate::proofs::RankLaws::absent))]
     pub(crate) fn take(&mut self, page: Key) -> Option<Ranked>
         ensures rank { result ≡ rank_in page self.old }

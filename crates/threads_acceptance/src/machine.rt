@@ -105,7 +105,7 @@ pub(crate) fn played_sum<S: SwapSlot + Send, R: Threads + Wait + Abort + Sync>(
     played(rt, alloc, setting, slots, &[WRITES_A_SUM], &OpenGate)
 }
 
-/// Each process has ended by itself as is told.
+/// Each process has ended by itself, with the status, the steps and the output that are given.
 pub(crate) fn expect(rt: &impl Abort, run: &RunReport, told: &[Told<'_>]) {
     assert!(rt; run.report.audit);
     assert!(rt; run.report.processes.len() == told.len());

@@ -33,7 +33,7 @@ fn a_process_pages_on_four_frames(rt: HostRuntime) {
     }
 }
 
-/// Three processes come to what each comes to alone, and their pages come and go.
+/// Each of three processes comes to the same as where it is the only process. Their pages come and go.
 pub(crate) fn played_by_three<R: Threads + Wait + Sync + Abort>(
     rt: &R,
     alloc: Global,

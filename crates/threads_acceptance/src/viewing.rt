@@ -54,7 +54,7 @@ impl Sight {
 struct Watching {
     zero: Sight,
     one: Sight,
-    /// How often others than two were told.
+    /// How often the number of reported processes was not two.
     others: AtomicU64,
 }
 

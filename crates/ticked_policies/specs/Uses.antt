@@ -8,8 +8,8 @@ use Rattle.std.specs.Prelude.{◌≤◌}
 abbrev pub pages_of : List PageUse → List Key
 pages_of references = map (λ reference. reference.page) references
 
--- How many references miss: those whose page is in no frame at that moment. `held` tells what is in a frame, `next` what a reference
--- leaves.
+-- How many references miss: those whose page is in no frame at that moment. `held` says what is in a frame. `next` gives the state after
+-- a reference.
 abbrev pub misses : {S : Type 0} → (Key → S → Bool) → (PageUse → S → S) → S → List PageUse → ℕ
 misses held next s [] = 0
 misses held next s (r ∷ rs) = cond (held r.page s) 0 1 + misses held next (next r s) rs

@@ -17,8 +17,8 @@ use Rattle.ticked_policies.specs.declared.ws_clock.WsClock.{WsClock}
 use Rattle.ticked_policies.specs.Framed.{fresh, used_by}
 use Rattle.ticked_policies.specs.Uses.{misses}
 
--- The pages, the one at the hand last and those behind the hand first; their marks, with the time of the last use that the hand knows;
--- and how many references have come.
+-- The pages: the one at the hand is last, and the one that the hand reaches last is first. Their marks, with the time of the last use that
+-- the hand knows. How many references have come.
 pub record WsClockState : Type 0 where
   pub pages : List Key
   pub marks : Key → Marks

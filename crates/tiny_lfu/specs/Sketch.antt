@@ -1,6 +1,6 @@
 -- The sketch of TinyLFU (Gil Einziger, Roy Friedman and Ben Manes, "TinyLFU: A Highly Efficient Cache Admission Policy", ACM
 -- Transactions on Storage 2017): how often pages were used, in little memory. It has four rows of counts, and a page has one in each row,
--- at a place that its number gives; pages may share counts. Sentences of the publication stand
+-- at a place that its number gives; pages may share counts. Sentences of the publication are
 -- beside the equations as they were remembered. Its doorkeeper, which holds pages that were used once, is left out, as its authors allow.
 use Rattle.std.specs.Prelude.{ℕ, ◌+◌, ◌*◌, ◌/◌, ◌%◌, ◌==◌, cond, nat_lt, min, List, map, slice_index_or, slice_set}
 use Rattle.clock_policy.specs.declared.key.Key.{Key}
@@ -23,7 +23,7 @@ fourth = 14029467366897019727
 unfoldable pub place : ℕ → ℕ → ℕ → Key → ℕ
 place m row multiplier p = row * m + spread multiplier p % m
 
--- where a page is counted, in rows of m counts that stand one after another
+-- where a page is counted, in rows of m counts one after another
 unfoldable pub places_of : ℕ → Key → Places
 places_of m p = record { first = place m 0 first p; second = place m 1 second p; third = place m 2 third p; fourth = place m 3 fourth p }
 

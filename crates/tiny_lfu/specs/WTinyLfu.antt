@@ -1,6 +1,6 @@
 -- W-TinyLFU: Gil Einziger, Roy Friedman and Ben Manes, "TinyLFU: A Highly Efficient Cache Admission Policy", ACM Transactions on
--- Storage 2017, section 4. Sentences of it stand beside the equations as they were remembered, with its authors' names: a window, which
--- is an LRU list, and the main cache, which is a segmented LRU: a list of pages on probation, and one of protected pages. All lists have
+-- Storage 2017, section 4. Sentences of it are beside the equations as they were remembered, with its authors' names. The window
+-- is an LRU list. The main cache is a segmented LRU: a list of pages on probation, and one of protected pages. All lists have
 -- the page first that was used last. Read so: pages that come in while the main cache has free frames are not compared with any.
 use Rattle.std.specs.Prelude.{ℕ, ◌+◌, ◌-◌, ◌*◌, ◌/◌, ◌==◌, Bool, true, cond, nat_lt, max, List, [], length, replicate, Option, Some, None}
 use Rattle.clock_policy.specs.declared.key.Key.{Key}
@@ -47,7 +47,7 @@ rooms_of shares m = record {
   sample = max (m * shares.sample) 1;
 }
 
--- a page on probation behind the others of its list, or none
+-- a page put at the front of the list of pages on probation, or none
 abbrev pub joined : Option Key → List Key → List Key
 joined None s = s
 joined (Some q) s = to_front q s

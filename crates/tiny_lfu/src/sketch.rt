@@ -107,7 +107,7 @@ impl Sketch {
         })
     }
 
-    /// How often a page was used, as far as its counts tell.
+    /// How often a page was used, as its counts estimate it.
     pub(crate) fn estimate(&self, page: Key) -> u8
         ensures { result ≡ estimate self.now.width page self.now.counts.items }
     {

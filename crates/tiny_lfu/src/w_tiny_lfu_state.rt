@@ -6,8 +6,8 @@ use crate::shares::TinyLfuRooms;
 use crate::sketch_state::Sketch;
 use page_policies::Queue;
 
-/// W-TinyLFU: a page comes into a small window, and on from there only where it was used more often than the page that would have to
-/// leave for it, as far as a sketch of all uses tells.
+/// W-TinyLFU: a page comes into a small window. It goes on from there only where it was used more often than the page that would have
+/// to leave for it. A sketch of all uses estimates this.
 #[derive(Drop)]
 pub struct WTinyLfu {
     pub(crate) rooms: TinyLfuRooms,

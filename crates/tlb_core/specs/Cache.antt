@@ -39,7 +39,7 @@ pub record Hits (cache : List Translation) (access : Access) (page place : ℕ) 
 unfoldable pub with_room : List Translation → List Translation
 with_room cache = if nat_lt (length cache) 16 then cache else drop 1 cache
 
--- an entry put in at the place of its page's, or else behind the others
+-- an entry put in at the place of its page's, or else after the others
 unfoldable pub filled_at : Translation → List Translation → Option ℕ → List Translation
 filled_at entry cache (Some place) = slice_set cache place entry
 filled_at entry cache None = with_room cache ++ entry ∷ []

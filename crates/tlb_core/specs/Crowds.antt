@@ -11,7 +11,7 @@ unfoldable pub crowd : ℕ → List ℕ → ℕ
 crowd bits [] = 0
 crowd bits (page ∷ pages) = if page % 256 == bits then suc (crowd bits pages) else crowd bits pages
 
--- counts tell it of all bits
+-- counts give this number for each value of the low eight bits
 pub record Counts (counts pages : List ℕ) : Type 0 where
   pub long : length counts ≡ 256
   pub each : (bits : ℕ) → bits < 256 → slice_index_or counts bits 0 ≡ crowd bits pages

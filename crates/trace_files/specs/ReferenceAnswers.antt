@@ -36,7 +36,7 @@ IsOutside (Text name) = ⊥
 IsOutside (Record number size) = ⊥
 IsOutside (Compressed name compression) = ⊥
 
--- a fault that tells which trace it is of tells this name
+-- a fault that names its trace gives this name
 abbrev pub Names : List ℕ → TraceFault → Type 0
 Names name NoMemory = ⊤
 Names name (CannotRead named) = named.now ≡ name
@@ -56,7 +56,7 @@ IsUnread name _ = ⊥
 
 -- ---- references
 
--- what is said of the flaw that a fault tells of; of one that comes from outside of the trace nothing is said
+-- what is said of the flaw that a fault reports; of a fault from outside the trace nothing is said
 abbrev pub Blames : TraceFault → (Flaw → Type 0) → Type 0
 Blames NoMemory P = ⊤
 Blames (CannotRead name) P = ⊤
@@ -69,7 +69,7 @@ Blames (Text name) P = P IsText
 Blames (Record number size) P = P (BadRecord number size)
 Blames (Compressed name compression) P = P (IsCompressed compression)
 
--- a fault of the content stands where the trace breaks, and is that which breaks it
+-- a fault of the content is where the trace breaks, and is what breaks it
 abbrev pub BreaksBy : TraceFault → Trace → Type 0
 BreaksBy fault trace = Blames fault (λ flaw. trace ≡ Breaks flaw)
 
@@ -85,7 +85,7 @@ IsOver None rest = ⊤
 IsOver (Some trace) None = ⊥
 IsOver (Some trace) (Some rest) = (trace ≡ Ends) × (rest ≡ Ends)
 
--- An answer is what comes next, and is passed; there is none at the end of the trace; and a fault stands where the trace breaks.
+-- An answer is what comes next, and is passed. There is none at the end of the trace. A fault is reported where the trace breaks.
 abbrev pub Tells : {A : Type 0} → (A → Trace → Trace) → Result (Option A) TraceFault → Option Trace → Option Trace → Type 0
 Tells gives (Ok (Some answer)) trace rest = Passes (gives answer) trace rest
 Tells gives (Ok None) trace rest = IsOver trace rest
@@ -104,7 +104,7 @@ due_left remaining format due pieces = option_map (due_from format due pieces.co
 abbrev pub joined_left : {B : Type 0} → (B → Option (List ℕ)) → TraceFormat → Option Reference → Option LineReferences → Pieces B → Option Trace
 joined_left remaining format held due pieces = option_map (λ bytes. joined held (due_from format due pieces.count pieces.words bytes)) (remaining pieces.file)
 
--- what a trace still tells
+-- what is still to come of a trace
 abbrev pub to_come : {B : Type 0} → (B → Option (List ℕ)) → TraceFile B → Option Trace
 to_come remaining trace = if is_of_addresses trace.format then joined_left remaining trace.format trace.held trace.due trace.pieces
     else due_left remaining trace.format trace.due trace.pieces
@@ -117,7 +117,7 @@ name_of trace = trace.pieces.name
 abbrev pub IsAtFront : {F A : Type 0} → (F → Option (List ℕ)) → TraceFormat → TraceFile (BufReader F A) → Type 0
 IsAtFront remaining format trace = to_come (reader_remaining remaining) trace ≡ option_map (trace_of format) (remaining (reader_inner trace.pieces.file))
 
--- A file that was opened is the one that is read, unless memory is wanted; of one that was not is told that it can't be read.
+-- A file that was opened is the one that is read, unless there is not enough memory. For any other file the fault is that it can't be read.
 abbrev pub Opens : {F E A : Type 0} → List ℕ → Result F E → Result (TraceFile (BufReader F A)) TraceFault → Type 0
 Opens name (Ok file) (Ok trace) = reader_inner trace.pieces.file ≡ file
 Opens name (Ok file) (Err fault) = fault ≡ NoMemory
@@ -129,7 +129,7 @@ Opens name (Err error) (Err fault) = IsUnread name fault
 abbrev pub page_of : Reference → Key
 page_of reference = reference.page
 
--- pages were told, and others are still to come
+-- pages were given, and others are still to come
 abbrev pub TellsPages : List Key → Option Trace → Option Trace → Type 0
 TellsPages pages None rest = ⊤
 TellsPages pages (Some trace) None = ⊥
@@ -144,7 +144,7 @@ TellsReferences references (Some trace) (Some rest) = (told trace ≡ references
 abbrev pub EndsBy : TraceFault → Trace → Type 0
 EndsBy fault trace = Blames fault (λ flaw. flaw_at_end trace ≡ Some flaw)
 
--- the same of one that may tell that there are no references
+-- the same of one that may report that there are no references
 abbrev pub StopsBy : TraceFault → Trace → Type 0
 StopsBy NoMemory trace = ⊤
 StopsBy (CannotRead name) trace = ⊤
@@ -157,14 +157,14 @@ StopsBy (Text name) trace = EndsBy (Text name) trace
 StopsBy (Record number size) trace = EndsBy (Record number size) trace
 StopsBy (Compressed name compression) trace = EndsBy (Compressed name compression) trace
 
--- a whole trace was told, without a flaw
+-- a whole trace was given, without a flaw
 abbrev pub IsWhole : List Reference → Trace → Type 0
 IsWhole references trace = (told trace ≡ references) × (flaw_at_end trace ≡ None)
 
 abbrev pub ArePages : List Key → Trace → Type 0
 ArePages pages trace = (map page_of (told trace) ≡ pages) × (flaw_at_end trace ≡ None)
 
--- of the pages that were told those were kept that pass a test, so many references were told in all, and others are still to come
+-- of the pages that were given, those that pass a test were kept; so many references were given in all, and others are still to come
 abbrev pub TellsSample : (Key → Bool) → List Key → ℕ → Option Trace → Option Trace → Type 0
 TellsSample keeps sample number None rest = ⊤
 TellsSample keeps sample number (Some trace) None = ⊥

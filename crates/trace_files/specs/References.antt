@@ -1,4 +1,4 @@
--- What references the bytes of a trace tell of.
+-- The references that the bytes of a trace give.
 use Rattle.std.specs.Prelude.{ℕ, zero, suc, ◌+◌, ◌-◌, ◌^◌, Bool, true, false, min, List, [], ◌∷◌, length, Option, Some, None, if◌then◌else◌}
 use Rattle.text_lines.specs.Text.{ahead, lines_of}
 use Rattle.std.specs.Option.{option_map}
@@ -19,9 +19,9 @@ use Rattle.trace_lines.specs.declared.trace_line.TraceLine.{TraceLine}
 use Rattle.trace_lines.specs.declared.trace_line.TraceLine.TheVariants.{Refers, Word, LeftOut, Names}
 use Rattle.trace_files.specs.WordNumbers.{resolved, words_behind}
 
--- ---- what a trace tells
+-- ---- what a trace gives
 
--- why it is not told to its end: lines and records are counted from 1, and of a record that is cut off is told how many bytes it has
+-- why it is not read to its end: lines and records are counted from 1; for a record that is cut off, its number of bytes is given
 pub data Flaw : Type 0 where
   NoIds : Flaw
   BadLine : ℕ → Flaw
@@ -135,7 +135,7 @@ abbrev pub line_or : Flaw → Option TraceLine → Trace → Trace
 line_or flaw None rest = Breaks flaw
 line_or flaw (Some line) rest = line_given line rest
 
--- what a line says whose words are known, and the words behind it
+-- what a line says whose words are known, and the words after it
 abbrev pub resolved_or : List (List ℕ) → List ℕ → Option TraceLine → Option TraceLine
 resolved_or words word said = option_map (resolved words word) said
 
@@ -143,7 +143,7 @@ abbrev pub words_after : List (List ℕ) → List ℕ → Option TraceLine → L
 words_after words word None = words
 words_after words word (Some line) = words_behind words word line
 
--- the lines or records behind the first so many, in which these words came
+-- the lines or records after the first so many, in which these words came
 unfoldable pub lines : TraceFormat → ℕ → List (List ℕ) → List (List ℕ) → Trace
 lines format count words [] = Ends
 lines format count words (piece ∷ pieces) = let line = said format (counted count) piece in
@@ -161,7 +161,7 @@ joined (Some reference) (Gives next rest) = if is_same_page reference.page next.
 
 -- ---- whole traces
 
--- whether a trace tells of addresses, and of pages otherwise
+-- whether a trace gives addresses; otherwise it gives pages
 abbrev pub is_of_addresses : TraceFormat → Bool
 is_of_addresses Text = false
 is_of_addresses (Csv table) = false
@@ -175,7 +175,7 @@ abbrev pub due_before : Option LineReferences → Trace → Trace
 due_before None rest = rest
 due_before (Some line) rest = referring line rest
 
--- bytes behind the first so many lines or records, in which these words came, with references that are due
+-- bytes after the first so many lines or records, in which these words came, with references that are due
 abbrev pub due_from : TraceFormat → Option LineReferences → ℕ → List (List ℕ) → List ℕ → Trace
 due_from format due count words bytes = due_before due (lines format count words (pieces_of format bytes))
 
@@ -183,6 +183,6 @@ due_from format due count words bytes = due_before due (lines format count words
 abbrev pub trace_from : TraceFormat → Option Reference → Option LineReferences → ℕ → List (List ℕ) → List ℕ → Trace
 trace_from format held due count words bytes = if is_of_addresses format then joined held (due_from format due count words bytes) else due_from format due count words bytes
 
--- what the bytes of a whole file tell
+-- what the bytes of a whole file give
 abbrev pub trace_of : TraceFormat → List ℕ → Trace
 trace_of format bytes = trace_from format None None 0 [] bytes

@@ -9,11 +9,11 @@ use Rattle.trace_lines.specs.declared.trace_line.TraceLine.TheVariants.{Refers, 
 abbrev pub is_same_word : List ℕ → List ℕ → Bool
 is_same_word word other = pointwise nat_eq word other
 
--- the number of a word: the place that it has among those that came before, or behind them
+-- the number of a word: its place among those that came before, or the place after them
 abbrev pub number_of : List ℕ → List (List ℕ) → ℕ
 number_of word words = position_or_len (is_same_word word) words
 
--- the words with this one, which stands behind the others if it is new
+-- the words with this one, which is after the others if it is new
 abbrev pub with_word : List ℕ → List (List ℕ) → List (List ℕ)
 with_word word words = if list_any (is_same_word word) words then words else words ++ word ∷ []
 
@@ -24,7 +24,7 @@ resolved words word (Word is_written) = word_numbered (number_of word words) is_
 resolved words word LeftOut = LeftOut
 resolved words word (Names column) = Names column
 
--- the words behind a line
+-- the words after a line
 abbrev pub words_behind : List (List ℕ) → List ℕ → TraceLine → List (List ℕ)
 words_behind words word (Refers line) = words
 words_behind words word (Word is_written) = with_word word words

@@ -30,7 +30,7 @@ csv_row time page = decimal time ++ codes "," ++ decimal (id_of page) ++ codes "
 abbrev pub csv_line : ℕ → Key → List ℕ
 csv_line time page = csv_row time page ++ 10 ∷ []
 
--- a page, and behind it a `w` where it is written
+-- a page, and after it a `w` where it is written
 abbrev pub reference_line : Reference → List ℕ
 reference_line reference = key_text reference.page ++ cond reference.is_written (codes " w") [] ++ 10 ∷ []
 

@@ -30,6 +30,6 @@ AddsPages text rest old new = (pages : List Key) × ((new ≡ old ++ read_only p
 abbrev pub TakesPages : Option (List ℕ) → Option (List ℕ) → List Reference → List Reference → Type 0
 TakesPages known left old new = (pages : List Key) × ((new ≡ old ++ read_only pages) × (Consumes known left (page_lines pages) × EachIsPage pages))
 
--- whatever was told with the pages that a block had, with those that it has now so much is told
+-- a trace that gives the block's old references before what was to come gives its new ones before what is still to come
 abbrev pub TellsOn : Option Trace → Option Trace → List Reference → List Reference → Type 0
 TellsOn now later old new = (first : Option Trace) → TellsReferences old first now → TellsReferences new first later

@@ -16,7 +16,7 @@ pub enum TraceFault<'a> {
     /// The column that the first line does not name.
     #[error("{0}: its first line names no column {1}")]
     NoColumn(&'a str, Column<'a>),
-    /// A line, and what stands there.
+    /// A bad line: its number, and its text.
     #[error("line {0}: bad line: {1}")]
     Line(u64, String),
     #[error("line {0}: bad id: {1}: ids are all numbers, or words and no numbers; if line 1 has names, use them, as --columns id=NAME; --ids words reads any text as a word")]

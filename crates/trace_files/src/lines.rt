@@ -26,7 +26,7 @@ use trace_lines::{
     format_behind, row_flaw_at, said, shows_text,
 };
 
-/// How many characters of a bad line are told.
+/// How many characters of a bad line are printed.
 const SHOWN: usize = 60;
 
 impl<'a, B: BufRead + Drop> Pieces<'a, B> {
@@ -79,7 +79,7 @@ impl<'a, B: BufRead + Drop> Pieces<'a, B> {
         }
     }
 
-    /// What is told of a line or record that says nothing.
+    /// The fault that is reported for a line or record that says nothing.
     #[tactic(auto, unfolding(crate::specs::References::flaw_of))]
     fn bad_piece(&self, format: TraceFormat<'a>) -> TraceFault<'a>
         ensures breaks { BreaksBy result (Breaks (flaw_of format.entry self.now.count

@@ -56,7 +56,7 @@ pub(crate) fn read_record<B: BufRead>(file: &mut B, bytes: &mut Vec<u8>) -> io::
     Ok(true)
 }
 
-/// Reads at least one byte and at most so many, behind those that are there; none at the end. Answers how many.
+/// Reads at least one byte and at most so many, after those that are there; none at the end. Returns how many.
 fn read_onto<B: BufRead>(file: &mut B, bytes: &mut Vec<u8>, most: usize) -> io::Result<usize>
     requires some { 0 < most }
     requires few { most ≤ 24 }

@@ -193,7 +193,7 @@ fn trace_over<'a, F: Read + Drop>(
     }
 }
 
-/// Whether a trace tells of addresses, and of pages otherwise.
+/// Whether a trace gives addresses; otherwise it gives pages.
 fn is_of_addresses(format: TraceFormat<'_>) -> bool
     ensures { result ≡ is_of_addresses format.entry }
 {

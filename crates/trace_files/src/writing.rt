@@ -37,7 +37,7 @@ pub fn write_csv<W: Write>(time: u64, page: Key, out: &mut W) -> io::Result<()>
     writeln!(out, "{time},{id},1")
 }
 
-/// Writes a reference as a line: its page, and behind it a `w` where it is written.
+/// Writes a reference as a line: its page, and after it a `w` where it is written.
 pub fn write_line<W: Write>(reference: Reference, out: &mut W) -> io::Result<()>
     ensures { OnOk result (Appends (W.contents out.old) (W.contents out.new)
         (reference_line reference)) }

@@ -13,7 +13,7 @@ use std::alloc::AllocError;
 /// A number from here on may pass 32 bits with another digit.
 const LONG: u32 = 400_000_000;
 
-/// What a decimal digit stands for.
+/// The value of a decimal digit.
 #[inline(always)]
 fn digit_in(byte: u8) -> Option<u32>
     ensures digit { IfSome result (λ digit. byte ≡ 48 + digit) }
@@ -26,7 +26,7 @@ fn digit_in(byte: u8) -> Option<u32>
     }
 }
 
-/// What stands after a byte, where that comes first.
+/// The text after a byte, where that byte comes first.
 #[inline(always)]
 fn behind(text: &[u8], byte: u8) -> Option<&[u8]>
     ensures { IfSome result (λ rest. text.now ≡ byte ∷ rest.now) }
@@ -38,7 +38,7 @@ fn behind(text: &[u8], byte: u8) -> Option<&[u8]>
     Some(rest)
 }
 
-/// A number with the digits that follow it, and what stands after them. A digit that may pass 32 bits stands there too.
+/// A number with the digits that follow it, and the text after them. A digit that may pass 32 bits is left in that text.
 #[inline(always)]
 #[tactic(auto, using(crate::proofs::WrittenPagesLaws::digit_more))]
 fn longer_number(number: u32, text: &[u8]) -> (u32, &[u8])
@@ -60,7 +60,7 @@ fn longer_number(number: u32, text: &[u8]) -> (u32, &[u8])
     (longer, rest)
 }
 
-/// The number whose decimal digits come first, and what stands after it.
+/// The number whose decimal digits come first, and the text after it.
 #[inline(always)]
 #[tactic(auto, using(crate::proofs::WrittenPagesLaws::digit_alone))]
 fn number_ahead(text: &[u8]) -> Option<(u32, &[u8])>
@@ -74,7 +74,7 @@ fn number_ahead(text: &[u8]) -> Option<(u32, &[u8])>
     Some(longer_number(digit, rest))
 }
 
-/// The page of the first line, and what stands after that line.
+/// The page of the first line, and the text after that line.
 #[inline(always)]
 #[tactic(auto, using(crate::proofs::WrittenPagesLaws::page_before))]
 fn page_ahead(text: &[u8]) -> Option<(Key, &[u8])>
@@ -88,7 +88,7 @@ fn page_ahead(text: &[u8]) -> Option<(Key, &[u8])>
     Some((Key { process, vpn }, rest))
 }
 
-/// Adds references to the pages of the first lines to a block, which then has so many at most. Answers what stands after those lines.
+/// Adds references to the pages of the first lines to a block, which then has so many at most. Returns the text after those lines.
 #[tactic(auto, using(crate::proofs::WrittenPagesLaws::none_added, crate::proofs::WrittenPagesLaws::one_added))]
 pub(crate) fn add_pages<'t>(
     text: &'t [u8],

@@ -28,7 +28,7 @@ access_at (Some address) None kind = None
 access_at (Some address) (Some size) None = None
 access_at (Some address) (Some size) (Some is_written) = access_to address size is_written
 
--- a number in hexadecimal, behind `0x`
+-- a number in hexadecimal, after `0x`
 unfoldable pub hexadecimal_in : List ℕ → Option ℕ
 hexadecimal_in word = if starts_with nat_eq word (codes "0x") then id_to 16 (drop 2 word) else None
 
@@ -46,7 +46,7 @@ unfoldable pub lackey_kind : List ℕ → Option Bool
 lackey_kind word = if bytes_eq word (codes "I") || bytes_eq word (codes "L") then Some false
     else if bytes_eq word (codes "S") || bytes_eq word (codes "M") then Some true else None
 
--- an address in hexadecimal, and behind a comma a size
+-- an address in hexadecimal, and after a comma a size
 abbrev pub place_cut : Option Bool → List ℕ → Option ℕ → Option AddressLine
 place_cut kind place (Some comma) = access_at (id_to 16 (take comma place)) (id_to 10 (drop (comma + 1) place)) kind
 place_cut kind place None = None
@@ -69,15 +69,15 @@ lackey_line line = if is_of_valgrind line then Some Other else lackey_words (wor
 unfoldable pub is_title : List ℕ → Bool
 is_title line = (length line == 0) || list_any (λ c. c == 60) line || starts_with nat_eq line (codes "--")
 
--- an address of `memtrace`, with a colon behind it
+-- an address of `memtrace`, with a colon after it
 unfoldable pub is_place : List ℕ → Bool
 is_place word = starts_with nat_eq word (codes "0x") && ends_with nat_eq word (codes ":")
 
--- a size, with a comma behind it
+-- a size, with a comma after it
 unfoldable pub size_in : List ℕ → Option ℕ
 size_in word = if ends_with nat_eq word (codes ",") then id_to 10 (take (length word - 1) word) else None
 
--- the words behind the address: the size, and `w` where it is written, or else `r` or an instruction's name
+-- the words after the address: the size, and `w` where it is written, or else `r` or an instruction's name
 abbrev pub memtrace_words : List ℕ → List (List ℕ) → Option AddressLine
 memtrace_words place [] = None
 memtrace_words place (size ∷ []) = None
@@ -88,19 +88,19 @@ unfoldable pub view_kind : List ℕ → Option Bool
 view_kind word = if bytes_eq word (codes "ifetch") || bytes_eq word (codes "read") then Some false
     else if bytes_eq word (codes "write") then Some true else None
 
--- The kind of a view's line so far, a word later; and its size, once a word stood behind the kind: the number of that word, if it is one.
+-- The kind of a view's line so far, a word later; and its size, once a word followed the kind: the number of that word, if it is one.
 unfoldable pub kind_after : Option Bool → List ℕ → Option Bool
 kind_after kind word = option_or (view_kind word) kind
 
 unfoldable pub size_after : Option Bool → Option (Option ℕ) → List ℕ → Option (Option ℕ)
 size_after kind size word = if is_some kind && is_none size && is_none (view_kind word) then Some (id_to 10 word) else size
 
--- the words behind the `@`, of which the first is the address
+-- the words after the `@`, of which the first is the address
 abbrev pub view_place : Option Bool → Option (Option ℕ) → List (List ℕ) → Option AddressLine
 view_place kind size [] = None
 view_place kind size (address ∷ others) = access_at (hexadecimal_in address) (option_flatten size) kind
 
--- a view's words: a kind, a size behind it, and an address behind an `@`
+-- a view's words: a kind, a size after it, and an address after an `@`
 unfoldable pub view_words : Option Bool → Option (Option ℕ) → List (List ℕ) → Option AddressLine
 view_words kind size [] = None
 view_words kind size (word ∷ words) = if bytes_eq word (codes "@") then view_place kind size words else view_words (kind_after kind word) (size_after kind size word) words

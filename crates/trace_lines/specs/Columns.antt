@@ -16,11 +16,11 @@ use Rattle.trace_lines.specs.declared.format.Table.{Table}
 abbrev pub is_separator : ℕ → Bool
 is_separator c = (c == 44) || (c == 59) || (c == 9)
 
--- whether what stands behind a character is quoted
+-- whether the text after a character is quoted
 abbrev pub quoted_after : Bool → ℕ → Bool
 quoted_after quoted c = if c == 34 then not quoted else quoted
 
--- what stands between separators; one that is quoted separates nothing
+-- the texts between separators; a quoted separator separates nothing
 unfoldable pub fields_from : ℕ → Bool → List ℕ → List (List ℕ)
 fields_from separator quoted [] = [] ∷ []
 fields_from separator quoted (c ∷ line) = if (c == separator) && not quoted then [] ∷ fields_from separator false line
@@ -34,7 +34,7 @@ unfoldable pub field_size : ℕ → Bool → List ℕ → ℕ
 field_size separator quoted [] = 0
 field_size separator quoted (c ∷ line) = if (c == separator) && not quoted then 0 else suc (field_size separator (quoted_after quoted c) line)
 
--- the fields behind the first separator, if there is one
+-- the fields after the first separator, if there is one
 abbrev pub fields_behind : ℕ → Option (List ℕ) → List (List ℕ)
 fields_behind separator None = []
 fields_behind separator (Some line) = fields_of separator line
@@ -119,12 +119,12 @@ abbrev pub table_named : Table → List ℕ → Option Table
 table_named table names = table_at table (separator_of names) (placed (separator_of names) names table.id) (placed_where (separator_of names) names table.volume)
     (placed_where (separator_of names) names table.size) (placed_where (separator_of names) names table.op)
 
--- what stands in a column of a line, where the column's place is known
+-- the text in a column of a line, where the column's place is known
 abbrev pub text_in : Option ℕ → Column → List ℕ → Option (List ℕ)
 text_in separator (At place) line = option_map field_text (slice_get (fields_of (unwrap_or separator (separator_of line)) line) place)
 text_in separator (Named name) line = None
 text_in separator Usual line = None
 
--- the number that stands there
+-- the number in a column of a line
 abbrev pub number_in : Option ℕ → Column → List ℕ → Option ℕ
 number_in separator column line = option_and_then id_in (text_in separator column line)

@@ -9,7 +9,7 @@ use Rattle.text_lines.specs.Numbers.{radix_of, digits_of}
 abbrev pub is_numeral : ℕ → List ℕ → Bool
 is_numeral radix text = nat_lt 0 (length text) && list_all (λ c. nat_lt (digit_value c) radix) text
 
--- the number below a limit that digits of a radix write; none where something else stands there, or nothing, or a greater number
+-- the number below a limit that digits of a radix represent; none where the text has other characters, is empty, or is not below the limit
 unfoldable pub number_below : ℕ → ℕ → List ℕ → Option ℕ
 number_below limit radix text = cond (is_numeral radix text && nat_lt (digits_value radix text) limit) (Some (digits_value radix text)) None
 

@@ -73,9 +73,9 @@ said format number piece = if is_some (compression_at number piece) then None el
 abbrev pub row_flaw_at : Table → ℕ → List ℕ → RowFlaw
 row_flaw_at table number piece = row_flaw table (plain_line number piece)
 
--- ---- what stands behind a line
+-- ---- what follows a line
 
--- behind the names of its columns a table has lines of columns
+-- after the names of its columns a table has lines of columns
 abbrev pub csv_behind : Option TraceLine → Table → TraceFormat
 csv_behind None table = Csv table
 csv_behind (Some (Refers line)) table = Csv table
@@ -83,7 +83,7 @@ csv_behind (Some (Word is_written)) table = Csv table
 csv_behind (Some LeftOut) table = Csv table
 csv_behind (Some (Names found)) table = Columns found
 
--- behind the first id it is known what the ids of the column are
+-- after the first id it is known what the ids of the column are
 abbrev pub ids_behind : Option TraceLine → IdKind → IdKind
 ids_behind None ids = ids
 ids_behind (Some (Refers line)) Unknown = Numbers

@@ -2,11 +2,11 @@
 use Rattle.std.specs.Prelude.{ℕ, ◌/◌, ◌%◌, ◌*◌, ◌+◌, ◌-◌, ◌^◌, ◌==◌, ◌&&◌, nat_le, nat_lt, min, Option, Some, None, if◌then◌else◌}
 use Rattle.clock_policy.specs.declared.key.Key.{Key}
 
--- the page that stands for an object: each id has its own
+-- the page that represents an object: each id has its own
 unfoldable pub page_of_id : ℕ → Key
 page_of_id id = record { process = id / 2 ^ 32; vpn = id % 2 ^ 32 }
 
--- the id of an object that stands for a page
+-- the id of an object that a page represents
 abbrev pub id_of : Key → ℕ
 id_of page = page.process * 2 ^ 32 + page.vpn
 

@@ -9,7 +9,7 @@ use Rattle.guest_strings.specs.declared.reference.Reference.{Reference}
 use Rattle.trace_lines.specs.Ids.{id_in, written_below}
 use Rattle.trace_lines.specs.PageIds.{page_of_id}
 
--- ---- a line: a page, and behind it a `w` where it is written
+-- ---- a line: a page, and after it a `w` where it is written
 
 abbrev pub is_bar : ℕ → Bool
 is_bar c = c == 47
@@ -19,7 +19,7 @@ page_of_parts (Some process) (Some vpn) = Some (record { process = process; vpn 
 page_of_parts (Some process) None = None
 page_of_parts None vpn = None
 
--- a page is the numbers of a process and of a page of it, of 32 bits, with a bar between them, or an id alone
+-- a page is the numbers of a process and of a page of it, of 32 bits, with a bar between them, or only an id
 abbrev pub page_cut : List ℕ → Option ℕ → Option Key
 page_cut word (Some bar) = page_of_parts (written_below 4294967296 (take bar word)) (written_below 4294967296 (drop (bar + 1) word))
 page_cut word None = option_map page_of_id (id_in word)
@@ -39,7 +39,7 @@ words_reference (page ∷ mark ∷ other ∷ others) = None
 abbrev pub line_reference : List ℕ → Option Reference
 line_reference line = words_reference (words_of line)
 
--- ---- a record of 24 bytes: the id stands behind 4 bytes of time
+-- ---- a record of 24 bytes: the id is after 4 bytes of time
 
 unfoldable pub record_page : List ℕ → Option Key
 record_page bytes = if length bytes == 24 then Some (page_of_id (little_number 8 (slice_range bytes 4 12))) else None

@@ -1,4 +1,4 @@
--- Lines as other programs write them: which bytes of a line count, and which lines tell of nothing; and files that are compressed.
+-- Lines as other programs write them: which bytes of a line count, and which lines have no data; and files that are compressed.
 use Rattle.std.specs.Prelude.{ℕ, ◌==◌, ◌&&◌, ◌||◌, Bool, nat_eq, List, [], ◌∷◌, length, drop, codes, Option, Some, None, if◌then◌else◌}
 use Rattle.std.specs.Io.BufRead.{strip_last}
 use Rattle.std.specs.List.{prefix_len, starts_with}
@@ -21,7 +21,7 @@ plain_line number line = strip_last 13 (without_mark number line)
 unfoldable pub tells_nothing : List ℕ → Bool
 tells_nothing text = (length text == 0) || starts_with nat_eq text (codes "#")
 
--- a line of white space alone, or one whose first character that is none is a `#`
+-- a line of only white space, or one whose first character other than white space is a `#`
 unfoldable pub is_left_out : List ℕ → Bool
 is_left_out line = tells_nothing (drop (prefix_len is_ascii_whitespace line) line)
 

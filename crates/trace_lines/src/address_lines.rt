@@ -62,7 +62,7 @@ fn access_to(address: u64, size: u64, is_written: bool) -> Option<AddressLine>
     }))
 }
 
-/// The number that hexadecimal digits write behind `0x`.
+/// The number that the hexadecimal digits after `0x` represent.
 #[tactic(auto, unfolding(crate::specs::AddressLines::hexadecimal_in))]
 fn hexadecimal_in(word: &[u8]) -> Option<u64>
     ensures { result ≡ hexadecimal_in word.now }
@@ -124,7 +124,7 @@ fn lackey_place(is_written: Option<bool>, place: &[u8]) -> Option<AddressLine>
     access_to(address, size, is_written?)
 }
 
-/// Where the first comma stands.
+/// Where the first comma is.
 fn comma(text: &[u8]) -> Option<usize>
     ensures { result ≡ position is_comma text.now }
 {
@@ -166,7 +166,7 @@ fn dynamorio_words(line: &[u8]) -> Option<AddressLine>
     view_line(line)
 }
 
-/// Whether a word is an address of `memtrace`, with a colon behind it.
+/// Whether a word is an address of `memtrace`, with a colon after it.
 #[tactic(auto, unfolding(crate::specs::AddressLines::is_place))]
 fn is_place(word: &[u8]) -> bool
     ensures { result ≡ is_place word.now }
@@ -174,7 +174,7 @@ fn is_place(word: &[u8]) -> bool
     word.starts_with(b"0x".as_slice()) && word.ends_with(b":".as_slice())
 }
 
-/// What stands behind an address of `memtrace`.
+/// What follows an address of `memtrace`.
 fn memtrace_line(place: &[u8], rest: &[u8]) -> Option<AddressLine>
     ensures { result ≡ memtrace_words place.now (words_of rest.now) }
 {
@@ -211,7 +211,7 @@ fn size_in(word: &[u8]) -> Option<u64>
     }
 }
 
-/// The kind of access stands before the size, and the address behind an `@`.
+/// The kind of access is before the size, and the address is after an `@`.
 #[tactic(auto, using(crate::proofs::AddressLineLaws::view_end, crate::proofs::AddressLineLaws::view_at, crate::proofs::AddressLineLaws::view_on))]
 fn view_line(line: &[u8]) -> Option<AddressLine>
     ensures { result ≡ view_words None None (words_of line.now) }
@@ -230,7 +230,7 @@ fn view_line(line: &[u8]) -> Option<AddressLine>
     None
 }
 
-/// The address behind the `@`, and what stood before it.
+/// The address after the `@`, and what was before it.
 fn view_place(kind: Option<bool>, size: Option<Option<u64>>, rest: &[u8]) -> Option<AddressLine>
     ensures { result ≡ view_place kind size (words_of rest.now) }
 {
@@ -248,7 +248,7 @@ fn kind_after(kind: Option<bool>, word: &[u8]) -> Option<bool>
     view_kind(word).or(kind)
 }
 
-/// What the word behind the kind writes, once it was read.
+/// The number that the word after the kind represents, once it was read.
 #[tactic(auto, unfolding(crate::specs::AddressLines::size_after))]
 fn size_after(kind: Option<bool>, size: Option<Option<u64>>, word: &[u8]) -> Option<Option<u64>>
     ensures { result ≡ size_after kind size word.now }

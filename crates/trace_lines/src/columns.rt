@@ -26,7 +26,7 @@ ghost use Rattle.trace_lines.specs.Columns.{
 use crate::format::{Column, Table};
 use crate::number_text::id_in;
 
-/// What stands between two quotes separates nothing.
+/// Text between two quotes separates nothing.
 const QUOTE: u8 = b'"';
 
 /// A comma, a semicolon or a tab.
@@ -36,7 +36,7 @@ fn is_separator(byte: u8) -> bool
     byte == b',' || byte == b';' || byte == b'\t'
 }
 
-/// Whether what stands behind a character is quoted.
+/// Whether the text after a character is quoted.
 fn quoted_after(is_quoted: bool, byte: u8) -> bool
     ensures { result ≡ quoted_after is_quoted byte }
 {
@@ -80,7 +80,7 @@ fn field_size(line: &[u8], separator: u8) -> usize
     size
 }
 
-/// The first field of a line, and what stands behind its separator, if it has one.
+/// The first field of a line, and the text after its separator, if it has one.
 #[tactic(auto, using(crate::proofs::ColumnLaws::whole_field))]
 fn next_field(line: &[u8], separator: u8) -> (&[u8], Option<&[u8]>)
     ensures fields { fields_of separator line.now ≡ result.0.now ∷ fields_behind separator
@@ -94,7 +94,7 @@ fn next_field(line: &[u8], separator: u8) -> (&[u8], Option<&[u8]>)
     (&line[..size], Some(&line[size + 1..]))
 }
 
-/// What stands in a column of a line.
+/// The text in a column of a line.
 #[tactic(auto, using(crate::proofs::ColumnLaws::get_behind, crate::proofs::ColumnLaws::get_first, crate::proofs::ColumnLaws::get_none))]
 fn field(line: &[u8], separator: u8, place: usize) -> Option<&[u8]>
     ensures { option_copied result ≡ slice_get (fields_of separator line.now) place }
@@ -261,7 +261,7 @@ pub fn column_lacking<'a>(table: Table<'a>, names: &[u8]) -> Option<Column<'a>> 
     None
 }
 
-/// What stands in a column of a line; what else stands in the line is not looked at.
+/// The text in a column of a line. The rest of the line is not looked at.
 pub(crate) fn text_in<'t>(
     separator: Option<u8>,
     column: Column<'_>,
@@ -275,7 +275,7 @@ pub(crate) fn text_in<'t>(
     }
 }
 
-/// What stands at a place of a line.
+/// The text at a place of a line.
 fn field_text(separator: Option<u8>, place: usize, line: &[u8]) -> Option<&[u8]>
     ensures { option_copied result ≡ option_map field_text (slice_get (fields_of (unwrap_or
         separator (separator_of line.now)) line.now) place) }
@@ -285,7 +285,7 @@ fn field_text(separator: Option<u8>, place: usize, line: &[u8]) -> Option<&[u8]>
     Some(unquoted(trimmed(field)))
 }
 
-/// The number that stands in a column of a line.
+/// The number in a column of a line.
 pub(crate) fn number_in(separator: Option<u8>, column: Column<'_>, line: &[u8]) -> Option<u64>
     ensures { result ≡ number_in separator column.entry line.now }
 {

@@ -12,7 +12,7 @@ use clock_policy::Key;
 use guest_strings::Reference;
 use text_lines::{next_word, number};
 
-/// A page that stands for an object: each id has its own.
+/// A page that represents an object: each id has its own.
 #[inline(always)]
 #[tactic(auto, unfolding(crate::specs::PageIds::page_of_id))]
 pub(crate) fn page_of_id(id: u64) -> Key
@@ -24,7 +24,7 @@ pub(crate) fn page_of_id(id: u64) -> Key
     }
 }
 
-/// The page that an id stands for.
+/// The page that an id represents.
 #[inline(always)]
 pub(crate) fn page_of_number(number: &[u8]) -> Option<Key>
     ensures { result ≡ option_map page_of_id (id_in number.now) }
@@ -45,8 +45,8 @@ pub(crate) fn page_of_record(bytes: &[u8]) -> Option<Key>
     Some(page_of_id(LittleEndian::read_u64(&bytes[4..12])))
 }
 
-/// What a line refers to: its page, `P/V`, the numbers of a process and of a page, or an id alone; and where the page was written a `w`
-/// behind it.
+/// What a line refers to: its page, `P/V`, the numbers of a process and of a page, or only an id; and after it a `w` where the page was
+/// written.
 #[inline(always)]
 pub(crate) fn reference_of_line(line: &[u8]) -> Option<Reference>
     ensures { result ≡ line_reference line.now }
@@ -79,7 +79,7 @@ fn page_in(word: &[u8]) -> Option<Key>
     Some(Key { process, vpn })
 }
 
-/// Where the first bar stands.
+/// Where the first bar is.
 fn bar(word: &[u8]) -> Option<usize>
     ensures { result ≡ position is_bar word.now }
 {

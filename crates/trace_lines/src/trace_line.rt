@@ -88,7 +88,7 @@ fn record_said<'a>(number: u64, bytes: &[u8]) -> Option<TraceLine<'a>>
     to_page(page_of_record(bytes))
 }
 
-/// Whether the first record shows that there are none, but a text: all its bytes are characters. As a record it would tell of a next use
+/// Whether the first record shows that there are no records, but a text: all its bytes are characters. As a record it would give a next use
 /// more than 2^56 references ahead.
 #[tactic(auto, unfolding(crate::specs::Lines::shows_text))]
 pub fn shows_text(number: u64, bytes: &[u8]) -> bool
@@ -220,8 +220,8 @@ fn address_said<'a>(line: Option<AddressLine>) -> Option<TraceLine<'a>>
     }
 }
 
-/// How the lines behind a line are read: behind the names of its columns a table has lines of columns, and behind its first id it is known
-/// what its ids are.
+/// How the lines after a line are read. After the names of its columns a table has lines of columns. After its first id it is known what
+/// its ids are.
 #[inline(always)]
 pub fn format_behind<'a>(line: TraceLine<'a>, format: TraceFormat<'a>) -> TraceFormat<'a>
     ensures { result ≡ format_behind (Some line.entry) format.entry }

@@ -1,6 +1,6 @@
--- How deep a page stands in LRU's stack, by the places of last uses in the string: B. T. Bennett and V. J. Kruskal, "LRU Stack
+-- How deep a page is in LRU's stack, by the places of last uses in the string: B. T. Bennett and V. J. Kruskal, "LRU Stack
 -- Processing", IBM Journal of Research and Development 1975. A place counts 1 while it is the last use of its page, and as many pages were
--- used since as places behind it count. Counts are added up by blocks of 256, and those sums by blocks again, so that few are added each time.
+-- used since as places after it count. Counts are added up by blocks of 256, and those sums by blocks again, so few are added each time.
 use Rattle.std.specs.Prelude.{◌≡◌, ℕ, ◌+◌, ◌-◌, ◌*◌, ◌≤◌, List, [], ◌∷◌, drop, length, slice_index_or, slice_set, suc, nat_lt, ◌<◌, Option, Some, None, ⊤}
 use Rattle.page_policies.specs.Demand.{one}
 use Rattle.whole_strings.specs.declared.last_places.LastPlaces.{LastPlaces}

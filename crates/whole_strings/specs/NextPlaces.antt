@@ -1,4 +1,4 @@
--- The pages in frames, each told by the place in the string of its next use alone.
+-- The pages in frames, each given only by the place in the string of its next use.
 use Rattle.std.specs.Prelude.{◌≡◌, ℕ, ◌+◌, ◌-◌, ◌<◌, ◌≤◌, Bool, true, false, cond, nat_lt, List, [], ◌∷◌, length}
 use Rattle.std.specs.Ordering.{nat_cmp}
 use Rattle.std.specs.BTreeSet.{insert_key}
@@ -13,7 +13,7 @@ under t (x ∷ xs) = cond (nat_lt x t) 1 0 + under t xs
 abbrev pub place : ℕ → ℕ → ℕ → ℕ
 place n at ahead = cond (nat_lt ahead (n - at - 1)) (at + 1 + ahead) (n + at)
 
--- the number `at`, which stood first, is gone; or it was not there, where none below it was
+-- the number `at`, which was first, is gone; or it was not there, where none below it was
 abbrev pub Due : ℕ → List ℕ → List ℕ → Bool → Type 0
 Due at old new true = old ≡ at ∷ new
 Due at old new false = (new ≡ old) × (under at old ≡ 0 → under (at + 1) old ≡ 0)

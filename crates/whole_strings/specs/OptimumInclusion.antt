@@ -4,7 +4,7 @@ use Rattle.clock_policy.specs.declared.key.Key.{Key}
 use Rattle.page_policies.specs.Strings.{holds}
 use Rattle.page_policies.specs.Optimal.{room_for}
 
--- the pages in m frames once some references were served, behind which the rest comes, where it began with the pages s
+-- the pages in m frames once some references were served and the rest comes after them, where it began with the pages s
 abbrev pub optimum_leaves : ℕ → List Key → List Key → List Key → List Key
 optimum_leaves m s [] rest = s
 optimum_leaves m s (p ∷ ps) rest = optimum_leaves m (cond (holds p s) s (p ∷ room_for m (ps ++ rest) s)) ps rest

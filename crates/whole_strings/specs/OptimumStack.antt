@@ -1,7 +1,7 @@
 -- The optimum with every number of frames at once: the stack of Richard L. Mattson, Jan Gecsei, Donald R. Slutz and Irving L. Traiger,
 -- "Evaluation Techniques for Storage Hierarchies", IBM Systems Journal 1970, for the policy OPT, whose priority is the next use. The pages
--- stand in an order in which m frames have the first m, each told by the place in the string of its next use alone (`NextPlaces`): a
--- reference at `at` finds its page where `at` stands, and hits with more frames than stand before it.
+-- are in an order in which m frames have the first m. Each is given only by the place in the string of its next use (`NextPlaces`). A
+-- reference at `at` finds its page where `at` is, and hits with more frames than there are places before it.
 use Rattle.std.specs.Prelude.{◌≡◌, ℕ, suc, ◌+◌, ◌<◌, ◌==◌, cond, nat_lt, List, [], ◌∷◌, length}
 use Rattle.clock_policy.specs.declared.key.Key.{Key}
 use Rattle.page_policies.specs.Optimal.{optimal_misses}
@@ -14,17 +14,17 @@ nearer a b = cond (nat_lt b a) b a
 abbrev pub farther : ℕ → ℕ → ℕ
 farther a b = cond (nat_lt b a) a b
 
--- how many stand before the place; where it is nowhere, how many there are
+-- how many are before the place; where it is nowhere, how many there are
 abbrev pub place_depth : ℕ → List ℕ → ℕ
 place_depth at [] = 0
 place_depth at (y ∷ ys) = cond (y == at) 0 (suc (place_depth at ys))
 
--- A place is carried down to where `at` stood, or to the end: it stays where one that is farther stands, which is carried on in its stead.
+-- A place is carried down to where `at` was, or to the end. It stays where a farther one is, and that one is carried on instead.
 abbrev pub carried_down : ℕ → ℕ → List ℕ → List ℕ
 carried_down at c [] = c ∷ []
 carried_down at c (y ∷ ys) = cond (y == at) (c ∷ ys) (nearer c y ∷ carried_down at (farther c y) ys)
 
--- The reference at `at`, whose page is used next at `next`: that stands first, and what stood first is carried down.
+-- The reference at `at`, whose page is used next at `next`: that comes first, and what was first is carried down.
 abbrev pub restacked : ℕ → ℕ → List ℕ → List ℕ
 restacked at next [] = next ∷ []
 restacked at next (y ∷ ys) = next ∷ cond (y == at) ys (carried_down at y ys)

@@ -9,7 +9,7 @@ use Rattle.page_policies.specs.Demand.{one}
 use Rattle.whole_strings.specs.LruDepths.{hits_within}
 use Rattle.whole_strings.specs.declared.working_sets.WindowCounts.{WindowCounts}
 
--- how many pages a list has that are not among others, each counted where it stands first
+-- how many pages a list has that are not among others, each counted where it is first
 abbrev pub pages_beside : List Key → List Key → ℕ
 pages_beside others [] = 0
 pages_beside others (q ∷ qs) = cond (holds q others) 0 1 + pages_beside (q ∷ others) qs

@@ -27,7 +27,7 @@ fn farther(a: usize, b: usize) -> usize
     if b < a { a } else { b }
 }
 
-/// Of the place that stands here and the one that is carried the nearer stays, and the farther is carried on.
+/// Of the place that is here and the one that is carried, the nearer stays, and the farther is carried on.
 fn pass(places: &mut [usize], here: usize, carried: usize) -> usize
     requires { here < length places.old }
     ensures places { places.new ≡ slice_set places.old here (nearer carried (slice_index_or
@@ -39,7 +39,7 @@ fn pass(places: &mut [usize], here: usize, carried: usize) -> usize
     farther(carried, place)
 }
 
-/// The place comes first, and what stood first is carried down. How many stood before `at`, and what is carried past the end.
+/// Puts the place first, and carries down what was first. Returns how many were before `at`, and what is carried past the end.
 fn carry_down(places: &mut [usize], at: usize, next: usize) -> (usize, Option<usize>)
     requires { 0 < length places.old }
     ensures depth { result.0 ≡ place_depth at places.old }
@@ -62,8 +62,8 @@ fn carry_down(places: &mut [usize], at: usize, next: usize) -> (usize, Option<us
     (places.len(), Some(carried))
 }
 
-/// The reference at `at`, whose page is used next at `next`, where the first places of the stack are known, so many at most. How many stood
-/// before its own; where it is none of these, how many there were.
+/// The reference at `at`, whose page is used next at `next`, where at most so many first places of the stack are known. Returns how many
+/// were before its own; where it is none of these, how many there were.
 fn restack(stack: &mut Vec<usize>, most: usize, at: usize, next: usize) -> Result<usize, AllocError>
     requires some { 0 < most }
     requires few { length stack.old.items ≤ most }

@@ -28,7 +28,7 @@ fn sum_of(counts: &[usize]) -> usize
     sum
 }
 
-/// What the counts behind a place come to, as far as its block goes.
+/// The sum of the counts after a place, up to the end of its block.
 fn sum_in_block(counts: &[usize], at: usize) -> usize
     requires inside { at < length counts.now }
     requires small { total counts.now < 2 ^ 63 }
@@ -96,7 +96,7 @@ impl LastPlaces {
         lower(self.groups.as_mut_slice(), block / BLOCK);
     }
 
-    /// How many places behind this one count.
+    /// How many places after this one count.
     pub(crate) fn behind(&self, at: usize) -> usize
         requires inside { at < length self.now.places.items }
         requires sums { AreSummed self.now }

@@ -1,6 +1,6 @@
 -- ARC: Nimrod Megiddo and Dharmendra S. Modha, "ARC: A Self-Tuning, Low Overhead Replacement Cache", FAST 2003, figure 4. Lines of its
--- pseudo-code stand beside the equations, with its authors' names: T1 and T2 are the pages in frames that were used once, and more
--- often, B1 and B2 the pages that left them, each with the most recently used at the front. The target p is theirs but for one
+-- pseudo-code are beside the equations, with its authors' names. T1 has the pages in frames that were used once, T2 those used more
+-- often. B1 and B2 have the pages that left them. Each has the most recently used page at the front. The target p is theirs but for one
 -- thing: it is a whole number here, and a quotient of lengths is rounded down; so `exceeds the target` and `= p` compare whole numbers.
 use Rattle.std.specs.Prelude.{ℕ, ◌+◌, ◌-◌, ◌*◌, ◌/◌, ◌==◌, Bool, true, false, cond, nat_lt, nat_le, min, List, [], length, Option, Some, None}
 use Rattle.clock_policy.specs.declared.key.Key.{Key}

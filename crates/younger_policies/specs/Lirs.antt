@@ -1,10 +1,10 @@
 -- LIRS: Song Jiang and Xiaodong Zhang, "LIRS: An Efficient Low Inter-reference Recency Set Replacement Policy to Improve Buffer Cache
--- Performance", SIGMETRICS 2002, section 3. Sentences of its three cases stand beside the equations as they were remembered, with its
--- authors' names: S is the stack of recency, the top first, and Q the list of the HIR pages in frames, its end first. The LIR pages stand
--- in a list of their own in the order of S, so that the last of them is the one at the bottom of S. The three cases are told of a cache
+-- Performance", SIGMETRICS 2002, section 3. Sentences of its three cases are beside the equations as they were remembered, with its
+-- authors' names. S is the stack of recency, the top first. Q is the list of the HIR pages in frames, its end first. The LIR pages are
+-- in a list of their own in the order of S. The last of them is the one at the bottom of S. The three cases describe a cache
 -- that is full: while a frame is free no page leaves one.
 -- S may have a bound, as in the simulator of its authors: where S has more pages, the lowest of those that are in no frame leaves it. Then
--- these stand in a list of their own too, in the order of S, which is that in which they leave their frames.
+-- these are in a list of their own too, in the order of S, which is that in which they leave their frames.
 use Rattle.std.specs.Prelude.{ℕ, zero, suc, ◌+◌, ◌-◌, ◌*◌, ◌/◌, ◌&&◌, Bool, true, false, cond, nat_lt, max, List, [], length, Option, Some, None}
 use Rattle.clock_policy.specs.declared.key.Key.{Key}
 use Rattle.page_policies.specs.Strings.{holds, without, misses}

@@ -1,6 +1,6 @@
 -- S3-FIFO: Juncheng Yang, Yazhuo Zhang, Ziyue Qiu, Yao Yue and K. V. Rashmi, "FIFO Queues are All You Need for Cache Eviction",
--- SOSP 2023, algorithm 1. Lines of its pseudo-code stand beside the equations, with its authors' names: S and M are the small and the
--- main queue, G the ghosts, and S has 10% of the frames. Read so: M is full where it has more pages than S leaves it frames, of which
+-- SOSP 2023, algorithm 1. Lines of its pseudo-code are beside the equations, with its authors' names. S and M are the small and the
+-- main queue, G has the ghosts, and S has 10% of the frames. Read so: M is full where it has more pages than S leaves it frames, of which
 -- S has one at least, and else its share rounded down; S is compared with a share that is not rounded (line 15); there are as many ghosts as M
 -- has frames, at most; a page that comes back is a ghost no more; and a page that goes from S to M keeps its count, which no line clears.
 -- The text of section 4 says that it is cleared. Each of these may be asked for otherwise.

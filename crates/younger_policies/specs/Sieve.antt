@@ -1,6 +1,6 @@
 -- SIEVE: Yazhuo Zhang, Juncheng Yang, Yao Yue, Ymir Vigfusson and K. V. Rashmi, "SIEVE is Simpler than LRU: an Efficient Turn-Key
--- Eviction Algorithm for Web Caches", NSDI 2024, algorithm 1. Lines of its pseudo-code stand beside the equations. The queue T is
--- told in two parts, from its head to its tail: what lies ahead of the hand, with the page o at the hand last, and behind that what the
+-- Eviction Algorithm for Web Caches", NSDI 2024, algorithm 1. Lines of its pseudo-code are beside the equations. The queue T is
+-- given in two parts, from its head to its tail. First is what lies ahead of the hand, with the page o at the hand last. Next is what the
 -- hand has passed. Where the pseudo-code leaves the hand NULL until the next eviction it is at the tail at once here: pages come in at the
 -- head, so that the tail is the same then.
 use Rattle.std.specs.Prelude.{ℕ, zero, suc, ◌+◌, ◌==◌, Bool, true, false, cond, nat_lt, List, [], length, Option, Some, None}

@@ -1,6 +1,6 @@
 -- 2Q, its full version: Theodore Johnson and Dennis Shasha, "2Q: A Low Overhead High Performance Buffer Management Replacement
--- Algorithm", VLDB 1994. Lines of its pseudo-code stand beside the equations, with its authors' names: A1in and A1out are queues, the
--- first of pages in frames and the second of pages that left, and Am is the stack of the pages that came back. The pseudo-code does not
+-- Algorithm", VLDB 1994. Lines of its pseudo-code are beside the equations, with its authors' names. A1in and A1out are queues, the
+-- first of pages in frames and the second of pages that left. Am is the stack of the pages that came back. The pseudo-code does not
 -- say when a name leaves A1out for its page's sake: here it does when the page comes back. Kin and Kout are shares of the frames, rounded
 -- down; its authors' advice for strings that are not known is 25% and 50%, so that A1in has no share of fewer than four frames.
 use Rattle.std.specs.Prelude.{ℕ, ◌+◌, ◌*◌, ◌/◌, Bool, true, cond, nat_lt, List, [], length, Option, Some, None}

@@ -13,8 +13,8 @@ use clock_policy::Key;
 use page_policies::{Frames, HitOrMiss, Policy, PolicyRefusal, Queue};
 use std::alloc::{AllocError, Global};
 
-/// LIRS: pages that come back soon (LIR) keep nearly all frames, and the others (HIR) go through the few that are left; a stack of
-/// recency tells which is which. It remembers pages that left as long as they are in the stack, which may have a bound.
+/// LIRS: pages that come back soon (LIR) keep nearly all frames, and the others (HIR) go through the few that are left. A stack of
+/// recency shows which pages are which. It remembers pages that left as long as they are in the stack, which may have a bound.
 #[derive(Drop)]
 pub struct Lirs {
     rooms: LirsRooms,

@@ -138,7 +138,7 @@ impl Sieve {
         }
     }
 
-    /// Whether the page is in a frame. Most that are used again are behind the hand.
+    /// Whether the page is in a frame. Most pages that are used again are ones that the hand has passed.
     fn is_there(&self, page: Key) -> bool
         ensures { result ≡ in_sieve page (queue_of self.now) }
     {

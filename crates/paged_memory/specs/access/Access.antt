@@ -100,15 +100,15 @@ UsesBytes (Err fault) bytes = ⊥
 abbrev pub bare_at : {S : Type 0} → List (ℕ × PageValue S) → ℕ → Option (PageValue S)
 bare_at pages number = option_map (λ page. with_bytes page []) (page_at pages number)
 
--- pages stay where they are, and one alone changes, and that but for the bytes in its frame
+-- pages stay where they are; only one changes, and only in the bytes in its frame
 pub record KeepsBare {S : Type 0} (number : ℕ) (old new : List (ℕ × PageValue S)) : Type 0 where
   pub bare : (page : ℕ) → bare_at new page ≡ bare_at old page
   pub places : (page : ℕ) → place_of page new ≡ place_of page old
   pub others : (page : ℕ) → page ≢ number → page_at new page ≡ page_at old page
 
--- what stays over a hart's access to a page, beside what the memory holds: all other caches; no table is added, and no page's A
--- or D falls; the hart's cache gets translations of resident pages alone, and none that is to be dropped; and that, if any, which
--- a walk fills of the page
+-- what stays over a hart's access to a page, besides what the memory holds: all other caches; no table is added, and no page's A
+-- or D falls; the hart's cache gets only translations of resident pages, and none that is to be dropped; and the translation, if
+-- any, that a walk fills for the page
 pub record KeepsTranslations {S : Type 0} (pages : List (ℕ × PageValue S)) (hart number : ℕ) (tables tables' : List (List ℕ)) (caches caches' : List (List Translation)) : Type 0 where
   pub harts : length caches' ≡ length caches
   pub others : (h : ℕ) → h ≢ hart → cache_of caches' h ≡ cache_of caches h
@@ -138,6 +138,6 @@ IsAnswered (Err (Absent page)) = ⊥
 abbrev pub ServesHeld : {A : Type 0} → List Translation → Access → ℕ → Result A BusError → Type 0
 ServesHeld cache access page result = (place : ℕ) → Hits cache access page place → IsAnswered result
 
--- the tables are as they were, or the page's entry alone is as a walk for the access leaves it
+-- the tables are as they were, or only the page's entry changes, to what a walk for the access leaves
 abbrev pub MayWalk : Access → ℕ → List (List ℕ) → List (List ℕ) → Type 0
 MayWalk access page old new = (new ≡ old) ⊎ ChangesEntry old new page (walked_entry (entry_at old page) access)

@@ -19,8 +19,8 @@ pub record KeepsPages {S : Type 0} (old new : List (ℕ × PageValue S)) : Type 
   pub fresh : (page : ℕ) (value : PageValue S) → page_at old page ≡ None → page_at new page ≡ Some value → value ≡ fresh_zero_page
 
 -- a hart's accesses: no table is added, and no page's A or D falls; no other hart's cache changes; the hart's own gets
--- translations of resident pages alone, and none that is to be dropped; the hart goes on with those that it has; and copies of
--- pages stand that stood
+-- only translations of resident pages, and none that is to be dropped; the hart goes on with those that it has; and each copy
+-- of a page that was valid is still valid
 pub record KeepsAccess {S : Type 0} (hart : ℕ) (old new : PagedValue S) : Type 0 where
   pub process : new.process ≡ old.process
   pub pages : KeepsPages old.pages new.pages

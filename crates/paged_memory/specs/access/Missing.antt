@@ -17,8 +17,8 @@ unfoldable pub is_among : List ℕ → ℕ → Bool
 is_among [] page = false
 is_among (first ∷ pages) page = (page == first) || is_among pages page
 
--- a cache does not show a page for an access behind accesses to these pages: they filled no translations but of their own, and then
--- none serves the access. To be dropped or not, a translation serves
+-- a cache does not show a page for an access after accesses to these pages: those filled only translations of their own pages, and then
+-- no translation serves the access. A translation that is to be dropped serves too
 pub record MissesBehind (cache : List Translation) (pages : List ℕ) (access : Access) (page : ℕ) : Type 0 where
   pub later : List Translation
   pub filled : FilledFrom (is_among pages) cache later
@@ -29,7 +29,7 @@ module _ {S : Type 0} where
   abbrev pub MissesIn : PagedValue S → ℕ → List ℕ → Access → ℕ → Type 0
   MissesIn memory hart = MissesBehind (cache_in memory hart)
 
-  -- a page takes stores: its dirty bit tells of them, or it is changed whatever that says, with no copy of it out
+  -- a page takes stores: its dirty bit reports them, or it counts as changed whatever that bit is, and no copy of it is out
   abbrev pub TakesIn : PagedValue S → ℕ → Type 0
   TakesIn memory page = (page < 2 ^ 20) × TakesStores memory.pages memory.tables page
 

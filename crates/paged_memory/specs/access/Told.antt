@@ -1,4 +1,4 @@
--- What was told of a process's memory in a hart's turn holds after more of its accesses.
+-- What was known of a process's memory in a hart's turn still holds after more of the hart's accesses.
 use Rattle.std.specs.Prelude.{ℕ, List}
 use Rattle.tlb_core.specs.declared.translation.Translation.{Translation}
 use Rattle.paged_memory.specs.access.Access.{HasPage, LacksPage}

@@ -97,7 +97,7 @@ module _ {S : Type 0} where
 -- the copy comes back
 
 module _ {S : Type 0} where
-  -- it is the copy of a page of these that is out, and no store tells why it differs from the page
+  -- it is the copy that is out of one of these pages, and it equals the page unless a store is reported
   abbrev pub IsCopyAt : SavedValue S → Bool → Option (PageValue S) → Type 0
   IsCopyAt job dirty page = StandsAt job.copy dirty page
 

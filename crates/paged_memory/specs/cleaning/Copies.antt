@@ -1,4 +1,4 @@
--- That a copy of a page which is out stands for it, as long as no dirty bit tells of a store since it was made.
+-- A copy of a page that is out equals the page as long as no dirty bit reports a store since the copy was made.
 use Rattle.std.specs.Prelude.{◌≡◌, ℕ, ◌^◌, ◌<◌, Bool, true, false, ◌&&◌, List, Option, Some, None, IsFalse}
 use Rattle.page_store.specs.Cleaning.{IfCopyOut}
 use Rattle.page_store.specs.Keeping.{Keeping, NoSlot, Saved, Unbacked, Cleaning, CopyOut, is_copy_out}
@@ -8,7 +8,7 @@ use Rattle.paged_memory.specs.Counting.{page_passes, pages_where}
 use Rattle.paged_memory.specs.Paged.{PagedValue, page_at}
 
 module _ {S : Type 0} where
-  -- a copy of the page is out; and unless its dirty bit, or the one that it took along, tells of a store, its frame holds these bytes
+  -- a valid copy is out: unless the page's dirty bit, or the one that it took along, reports a store, the page's frame holds these bytes
   abbrev pub StandsAt : List ℕ → Bool → Option (PageValue S) → Type 0
   StandsAt bytes dirty (Some page) = IfCopyOut dirty page.place (λ frame stored. IsFalse stored → frame.bytes ≡ bytes)
   StandsAt bytes dirty None = ⊥
@@ -17,7 +17,7 @@ module _ {S : Type 0} where
   abbrev pub CopyStands : ℕ → List ℕ → PagedValue S → Type 0
   CopyStands vpn bytes memory = StandsAt bytes (entry_at memory.tables vpn).dirty (page_at memory.pages vpn)
 
-  -- every copy that stood stands
+  -- every copy that was valid is still valid
   abbrev pub KeepsCopies : PagedValue S → PagedValue S → Type 0
   KeepsCopies old new = (vpn : ℕ) (bytes : List ℕ) → vpn < 2 ^ 20 → CopyStands vpn bytes old → CopyStands vpn bytes new
 
@@ -29,17 +29,17 @@ module _ {S : Type 0} where
   abbrev pub copies_among : PagedValue S → (ℕ → Bool) → ℕ
   copies_among memory test = pages_where (λ number page. is_copy_out (slot_of page.place) && test number) memory.pages
 
-  -- the same copies are out, and each that stood stands
+  -- the same copies are out, and each that was valid is still valid
   pub record LeavesCopies (old new : PagedValue S) : Type 0 where
     pub stand : KeepsCopies old new
     pub out : (vpn : ℕ) → vpn < 2 ^ 20 → is_copied_in new vpn ≡ is_copied_in old vpn
 
-  -- of every other page the same copies are out, and each that stood stands
+  -- of every other page the same copies are out, and each that was valid is still valid
   pub record OtherCopies (vpn : ℕ) (old new : PagedValue S) : Type 0 where
     pub stand : (q : ℕ) (bytes : List ℕ) → q < 2 ^ 20 → (q ≡ vpn → ⊥) → CopyStands q bytes old → CopyStands q bytes new
     pub out : (q : ℕ) → q < 2 ^ 20 → (q ≡ vpn → ⊥) → is_copied_in new q ≡ is_copied_in old q
 
-  -- a copy of the page of a number goes out with these bytes, and stands for it
+  -- a copy of the page of a number goes out with these bytes, and is valid
   pub record CopyGoesOut (vpn : ℕ) (bytes : List ℕ) (old new : PagedValue S) : Type 0 where
     pub before : is_copied_in old vpn ≡ false
     pub out : is_copied_in new vpn ≡ true
@@ -52,7 +52,7 @@ module _ {S : Type 0} where
     pub back : is_copied_in new vpn ≡ false
     pub others : OtherCopies vpn old new
 
--- what is told of a copy that is out: the bit that tells of a store since, and what the frame holds
+-- what is known of a copy that is out: the bit that reports a store since, and what the frame holds
 
 module _ {S : Type 0} where
   abbrev pub if_out : {A : Type 0} → Keeping S → A → Option A

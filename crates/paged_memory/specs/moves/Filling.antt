@@ -25,11 +25,11 @@ module _ {S : Type 0} where
   IsAbsent (Some page) = IfAbsent page.place (Unit {0}) (λ _. Unit {0})
   IsAbsent None = ⊥
 
-  -- a resident page that has not changed since it was brought in, as its slot tells
+  -- a resident page that has not changed since it was brought in, as its slot shows
   abbrev pub IsUnchanged : PageValue S → Type 0
   IsUnchanged page = IfResident page.place (λ frame slot. IsFalse (is_unbacked slot))
 
-  -- how many failures of its device the slot that a page has at hand tells of, if the page is mapped
+  -- how many failures of its device are reported by the slot that a page has at hand, if the page is mapped
   abbrev pub failures_of : (S → ℕ) → Option (PageValue S) → Option ℕ
   failures_of failures None = None
   failures_of failures (Some page) = failures_at failures page.place

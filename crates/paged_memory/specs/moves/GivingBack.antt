@@ -27,7 +27,7 @@ module _ {S : Type 0} where
     pub pages : ChangesBy (GivesBack given) old new number
     pub entries : ChangesEntry tables tables' number blank
 
-  -- a number lies just behind a page that has something, and that page not before the one from which on it was looked for
+  -- a number is one above that of a page that has something, and that page is not below the one where the search began
   pub record LiesBehind (pages : List (ℕ × PageValue S)) (from next : ℕ) : Type 0 where
     pub number : ℕ
     pub next_is : next ≡ number + 1

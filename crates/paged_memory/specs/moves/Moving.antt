@@ -1,4 +1,4 @@
--- What each call on a process's pages does to its memory as a whole, by name: whatever stands on it says so by these.
+-- What each call on a process's pages does to its memory as a whole, by name. Code that builds on this memory uses these names.
 use Rattle.std.specs.Prelude.{◌≡◌, ℕ, zero, suc, ◌^◌, ◌<◌, ◌≤◌, Bool, true, false, ◌||◌, is_some, map, List, [], ◌∷◌, ◌++◌, Option, Some, None, option_map, option_and_then, if◌then◌else◌, IfSome}
 use Rattle.frame_pool.specs.FrameValue.{FrameValue}
 use Rattle.page_memory.specs.Words.{page_number, page_offset}
@@ -231,7 +231,7 @@ module _ {S : Type 0} (held : S → List ℕ) (honest : Type 0) where
   abbrev pub DoesNotShow : (S → ℕ) → ℕ → PagedValue S → PagedValue S → PeekFault → Type 0
   DoesNotShow failures address old new fault = RefusesPeek held honest failures old.pages new.pages (page_number address) fault
 
--- the slot of the page of a number tells of no failure more
+-- the slot of the page of a number reports as many failures as before
 abbrev pub SameFailures : {S : Type 0} → (S → ℕ) → ℕ → PagedValue S → PagedValue S → Type 0
 SameFailures failures vpn old new = failures_of failures (page_at new.pages vpn) ≡ failures_of failures (page_at old.pages vpn)
 
@@ -253,7 +253,7 @@ module _ {S : Type 0} where
   abbrev pub HasNothingBelow : ℕ → PagedValue S → Type 0
   HasNothingBelow bound memory = (q : ℕ) → q < bound → GivesNothingIn memory q
 
-  -- a number lies just behind a page that has something, and that page not before the one from which on it was looked for
+  -- a number is one above that of a page that has something, and that page is not below the one where the search began
   abbrev pub LiesBehindIn : PagedValue S → ℕ → ℕ → Type 0
   LiesBehindIn memory from next = LiesBehind memory.pages from next
 

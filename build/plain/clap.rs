@@ -54,12 +54,13 @@ pub struct Arg<'a> {
     long: Option<&'a str>,
     short: Option<char>,
     is_required: bool,
+    takes_rest: bool,
     action: ArgAction,
 }
 
 impl<'a> Arg<'a> {
     pub fn new(_: Global, id: &'a str) -> Self {
-        Arg { id, long: None, short: None, is_required: false, action: ArgAction::Set }
+        Arg { id, long: None, short: None, is_required: false, takes_rest: false, action: ArgAction::Set }
     }
 
     pub fn short(self, short: char) -> Self {
@@ -76,6 +77,10 @@ impl<'a> Arg<'a> {
 
     pub fn action(self, action: ArgAction) -> Self {
         Arg { action, ..self }
+    }
+
+    pub fn trailing_var_arg(self, takes_rest: bool) -> Self {
+        Arg { takes_rest, ..self }
     }
 
     /// Here no option's help is shown.
@@ -160,6 +165,7 @@ impl<'a> Command<'a> {
                     return wrong(format!("unexpected argument '{word}' found"));
                 };
                 values.entry(arg.id).or_default().push(word);
+                are_files |= arg.takes_rest;
                 if arg.action != ArgAction::Append {
                     file = files.next();
                 }

@@ -2,6 +2,18 @@
 #ifndef PAGED_H
 #define PAGED_H
 
+/* Room for words: so many bytes, which `guest run IMAGE WORD..` fills with argc, argv and the words. Written once, outside of functions.
+   Build with -DWITH_WORDS=1 and without -s. The object is in .data, so that the file has its bytes. */
+#define GUEST_WORDS(bytes) \
+    _Static_assert(WITH_WORDS, "build with -DWITH_WORDS=1"); \
+    __attribute__((section(".data"), aligned(4), used)) char __guest_words[(bytes) < 8 ? 8 : (bytes)]
+
+/* A stack of so many bytes for the first hart, in place of the usual one. Written once, outside of functions; build with -DWITH_WORDS=1. */
+#define GUEST_STACK(bytes) \
+    _Static_assert(WITH_WORDS, "build with -DWITH_WORDS=1"); \
+    __attribute__((aligned(16))) char __guest_stack[((bytes) + 15) / 16 * 16]; \
+    __attribute__((used)) char *const __guest_stack_end = __guest_stack + sizeof __guest_stack
+
 /* Writes at most `length` bytes and answers how many it took: a call stops at a page's end, so it may be fewer. */
 static inline long paged_write(const char *bytes, unsigned long length)
 {

@@ -60,15 +60,40 @@
 2:
         .endm
 
-/* All that comes before main: gp, the variables of a thread, and constructors. */
+/* All that comes before main: gp, the variables of a thread, and constructors. With -DWITH_WORDS, the program's own stack, if it has one,
+   comes first, and main gets the program's words, if it has room for them. */
+#ifdef WITH_WORDS
+        .weak   __guest_words
+        .weak   __guest_stack_end
+        .macro  set_own_stack
+        la      t0, __guest_stack_end
+        beqz    t0, 1f
+        lw      sp, 0(t0)
+1:
+        .endm
+        .macro  set_words
+        la      t0, __guest_words
+        beqz    t0, 1f
+        lw      a0, 0(t0)
+        addi    a1, t0, 4
+1:
+        .endm
+#else
+        .macro  set_own_stack
+        .endm
+        .macro  set_words
+        .endm
+#endif
         .macro  begin_program
         set_global_pointer
+        set_own_stack
         place_thread_variables
         call_each __preinit_array_start, __preinit_array_end
         call_each __init_array_start, __init_array_end
-        li      a0, 0               /* main is given no words */
+        li      a0, 0
         la      a1, no_words
         mv      a2, a1
+        set_words
         .endm
 
         .section .rodata

@@ -14,7 +14,7 @@ pub record IsBegun (image : ImageContent) (input : List ℕ) (limit : ℕ) (step
   pub most : steps.limit ≡ limit
   pub none : steps.done ≡ 0
 
--- `gives` tells, of a name, the bytes that a file of it may be found to hold
+-- `gives` relates a name to the bytes that a file of this name may be found to hold
 module _ (gives : List ℕ → List ℕ → Type 0) where
   -- the steps of the named image's program on the whole input, and the bytes of a file of that name
   pub record BeginsSteps (name : List ℕ) (limit : ℕ) (known : Option (List ℕ)) (steps : StepString) (file : List ℕ) : Type 0 where

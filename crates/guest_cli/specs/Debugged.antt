@@ -6,6 +6,7 @@ use Rattle.debug_session.specs.declared.conversation.SessionFault.{SessionFault}
 use Rattle.debug_session.specs.declared.conversation.SessionFault.TheVariants as session
 use Rattle.image_files.specs.Reading.{GivesImage, GivesInput}
 use Rattle.image_files.specs.Refused.{GivesNoImage, GivesNoInput}
+use Rattle.guest_words.specs.Given.{GivesWithWords}
 use Rattle.image_files.specs.declared.fault.Fault.{Fault}
 use Rattle.image_files.specs.declared.fault.Fault.TheVariants as fault
 use Rattle.run_records.specs.Prints.{print_of}
@@ -54,7 +55,7 @@ abbrev pub IsWrongOf : HistoryFault → List ℕ → Wrong → Type 0
 IsWrongOf (history.BadLine number) image why = IsFault (λ it. it ≡ fault.BadLine number) why
 IsWrongOf history.CannotRead image why = IsFault IsUnreadLine why
 IsWrongOf history.CannotWrite image why = IsFault (λ it. it ≡ fault.CannotWrite) why
-IsWrongOf (history.Run why_not) image why = IsWrongRun why_not image why
+IsWrongOf (history.Run refused) image why = IsWrongRun refused image why
 
 -- one on frames was
 abbrev pub IsFaultOf : SessionFault → Fault → Type 0
@@ -68,7 +69,7 @@ abbrev pub input_word : Option (List ℕ) → List ℕ
 input_word None = codes "--input"
 input_word (Some name) = name
 
--- ---- what is debugged: `gives` tells, of a name, the bytes that a file of it may be found to hold
+-- ---- what is debugged: `gives` relates a name to the bytes that a file of this name may be found to hold
 module _ (gives : List ℕ → List ℕ → Type 0) where
   -- the named image's program on the named input, whose harts take turns, before its first step
   pub record BeginsByTurns (name : List ℕ) (input : Option (List ℕ)) (begun : History) : Type 0 where
@@ -85,7 +86,7 @@ module _ (gives : List ℕ → List ℕ → Type 0) where
   -- the program on the input that a record names, which replays on them: its harts take the record's turns, and no others
   pub record BeginsAsTold (told : RecordValue) (name : List ℕ) (input : Option (List ℕ)) (begun : History) : Type 0 where
     pub program : Program
-    pub image_given : GivesImageOf gives name told.image program.image
+    pub image_given : GivesImageOf (GivesWithWords gives []) name told.image program.image
     pub input_given : GivesInputOf input told.input program.input.items
     pub after : Process
     pub replays : Replays told (opening program.image program.input.items) after
@@ -93,24 +94,29 @@ module _ (gives : List ℕ → List ℕ → Type 0) where
 
   -- the same of the named record
   abbrev pub BeginsByRecord : List ℕ → List ℕ → Option (List ℕ) → History → Type 0
-  BeginsByRecord record_name name input begun = (told : RecordValue) × (GivesRecord gives record_name told × BeginsAsTold told name input begun)
+  BeginsByRecord record_name name input begun =
+      (told : RecordValue) × (GivesRecord gives record_name told × BeginsAsTold told name input begun)
 
   -- by a record, where one is named
   abbrev pub BeginsDebug : Option (List ℕ) → List ℕ → Option (List ℕ) → History → Type 0
   BeginsDebug None name input begun = BeginsByTurns name input begun
   BeginsDebug (Some record_name) name input begun = BeginsByRecord record_name name input begun
 
-  -- such a debugger answers the lines of `known`, with this result. `old` and `new` are what stands in the output before and after.
-  pub record DebugsFlat (record_name : Option (List ℕ)) (name : List ℕ) (input known old new : Option (List ℕ)) (result : Result (Unit {0}) HistoryFault) : Type 0 where
+  -- Such a debugger answers the lines of `known`, with this result. `old` and `new` are the output before and after.
+  pub record DebugsFlat (record_name : Option (List ℕ)) (name : List ℕ) (input known old new : Option (List ℕ))
+      (result : Result (Unit {0}) HistoryFault) : Type 0 where
     pub begun : History
     pub begins : BeginsDebug record_name name input begun
     pub after : History
     pub conversed : HasConversed result known begun old after new
 
--- `debugs` tells what a debugger on so many frames answers lines with
-module _ (gives : List ℕ → List ℕ → Type 0) (debugs : ℕ → ImageContent → List ℕ → Option (List ℕ) → Option (List ℕ) → Option (List ℕ) → Result (Unit {0}) SessionFault → Type 0) where
+-- `debugs` says what a debugger on so many frames answers to lines
+module _ (gives : List ℕ → List ℕ → Type 0)
+    (debugs : ℕ → ImageContent → List ℕ → Option (List ℕ) → Option (List ℕ) → Option (List ℕ) →
+    Result (Unit {0}) SessionFault → Type 0) where
   -- that of the named image's program on the named input
-  pub record DebugsOnFrames (frames : ℕ) (name : List ℕ) (input known old new : Option (List ℕ)) (result : Result (Unit {0}) SessionFault) : Type 0 where
+  pub record DebugsOnFrames (frames : ℕ) (name : List ℕ) (input known old new : Option (List ℕ))
+      (result : Result (Unit {0}) SessionFault) : Type 0 where
     pub image : ImageContent
     pub image_given : GivesImage gives name image
     pub bytes : List ℕ
@@ -118,24 +124,28 @@ module _ (gives : List ℕ → List ℕ → Type 0) (debugs : ℕ → ImageConte
     pub debugged : debugs frames image bytes known old new result
 
   -- all lines were answered, up to the last one or to `quit`: on so many frames, or on flat memory
-  abbrev pub AnswersDebug : Option ℕ → Option (List ℕ) → List ℕ → Option (List ℕ) → Option (List ℕ) → Option (List ℕ) → Option (List ℕ) → ℕ → Type 0
-  AnswersDebug None record_name name input known old new status = DebugsFlat gives record_name name input known old new (Ok tt) × (status ≡ 0)
-  AnswersDebug (Some frames) record_name name input known old new status = DebugsOnFrames frames name input known old new (Ok tt) × (status ≡ 0)
+  abbrev pub AnswersDebug : Option ℕ → Option (List ℕ) →
+      List ℕ → Option (List ℕ) → Option (List ℕ) → Option (List ℕ) → Option (List ℕ) → ℕ → Type 0
+  AnswersDebug None record_name name input known old new status =
+      DebugsFlat gives record_name name input known old new (Ok tt) × (status ≡ 0)
+  AnswersDebug (Some frames) record_name name input known old new status =
+      DebugsOnFrames frames name input known old new (Ok tt) × (status ≡ 0)
 
--- ---- why it is refused: `withholds` tells, of a name, whether a file of it may be found that can't be read
+-- ---- why it is refused: `withholds` holds of a name if a file of this name may be found that can't be read
 module _ (gives : List ℕ → List ℕ → Type 0) (withholds : List ℕ → Type 0) where
   -- an input that is not of this fingerprint, or can't be read
-  abbrev pub IsNoInputOf : Option (List ℕ) → Fingerprint → Wrong → Type 0
-  IsNoInputOf input print (wrong.Fault why) = GivesNoInput gives withholds input why
-  IsNoInputOf input print (wrong.OtherInput named) =
+  abbrev pub GivesNoInputOf : Option (List ℕ) → Fingerprint → Wrong → Type 0
+  GivesNoInputOf input print (wrong.Fault why) = GivesNoInput gives withholds input why
+  GivesNoInputOf input print (wrong.OtherInput named) =
       (named.now ≡ input_word input) × ((bytes : List ℕ) × (GivesInput gives input bytes × (print_of bytes ≢ print)))
-  IsNoInputOf input print _ = ⊥
+  GivesNoInputOf input print _ = ⊥
 
-  -- the image, then the input, or memory is wanting
+  -- the image, then the input, or there is not enough memory
   abbrev pub RefusesByTurns : List ℕ → Option (List ℕ) → Wrong → Type 0
   RefusesByTurns name input why =
       IsFault (GivesNoImage gives withholds name) why
-      ⊎ ((image : ImageContent) × (GivesImage gives name image × IsFault (λ it. GivesNoInput gives withholds input it ⊎ (it ≡ fault.NoMemory)) why))
+      ⊎ ((image : ImageContent) × (GivesImage gives name image
+      × IsFault (λ it. GivesNoInput gives withholds input it ⊎ (it ≡ fault.NoMemory)) why))
 
   -- turns that no debugger takes, of a record that replays
   pub record RefusesTurnsOf (told : RecordValue) (name : List ℕ) (before : Process) (why : Wrong) : Type 0 where
@@ -148,10 +158,11 @@ module _ (gives : List ℕ → List ℕ → Type 0) (withholds : List ℕ → Ty
   -- the image, then the input, are not those of a record; or it does not replay; or no debugger takes its turns
   abbrev pub RefusesProgramOf : List ℕ → List ℕ → Option (List ℕ) → RecordValue → Wrong → Type 0
   RefusesProgramOf record_name name input told why =
-      IsOfRecord (IsNoImageOf gives withholds name told.image) why
-      ⊎ ((image : ImageContent) × (GivesImageOf gives name told.image image × (IsNoInputOf input told.input why
+      IsOfRecord (IsNoImageOf gives withholds [] name told.image) why
+      ⊎ ((image : ImageContent) × (GivesImageOf (GivesWithWords gives []) name told.image image × (GivesNoInputOf input told.input why
       ⊎ ((bytes : List ℕ) × (GivesInputOf gives input told.input bytes
-      × (IsOfRecord (FailsReplay gives withholds record_name told (opening image bytes)) why ⊎ RefusesTurnsOf told name (opening image bytes) why))))))
+      × (IsOfRecord (FailsReplay gives withholds record_name told (opening image bytes)) why
+      ⊎ RefusesTurnsOf told name (opening image bytes) why))))))
 
   -- the record first
   abbrev pub RefusesByRecord : List ℕ → List ℕ → Option (List ℕ) → Wrong → Type 0
@@ -169,13 +180,17 @@ module _ (gives : List ℕ → List ℕ → Type 0) (withholds : List ℕ → Ty
       (RefusesHistory record_name name input why × (new ≡ old))
       ⊎ ((broken : HistoryFault) × (DebugsFlat gives record_name name input known old new (Err broken) × IsWrongOf broken name why))
 
-module _ (gives : List ℕ → List ℕ → Type 0) (withholds : List ℕ → Type 0) (debugs : ℕ → ImageContent → List ℕ → Option (List ℕ) → Option (List ℕ) → Option (List ℕ) → Result (Unit {0}) SessionFault → Type 0) where
+module _ (gives : List ℕ → List ℕ → Type 0) (withholds : List ℕ → Type 0)
+    (debugs : ℕ → ImageContent → List ℕ → Option (List ℕ) → Option (List ℕ) → Option (List ℕ) →
+    Result (Unit {0}) SessionFault → Type 0) where
   -- the same on so many frames
   abbrev pub RefusesOnFrames : ℕ → List ℕ → Option (List ℕ) → Option (List ℕ) → Option (List ℕ) → Option (List ℕ) → Wrong → Type 0
   RefusesOnFrames frames name input known old new why =
       (RefusesByTurns gives withholds name input why × (new ≡ old))
-      ⊎ ((broken : SessionFault) × (DebugsOnFrames gives debugs frames name input known old new (Err broken) × IsFault (IsFaultOf broken) why))
+      ⊎ ((broken : SessionFault) × (DebugsOnFrames gives debugs frames name input known old new (Err broken)
+      × IsFault (IsFaultOf broken) why))
 
-  abbrev pub RefusesDebug : Option ℕ → Option (List ℕ) → List ℕ → Option (List ℕ) → Option (List ℕ) → Option (List ℕ) → Option (List ℕ) → Wrong → Type 0
+  abbrev pub RefusesDebug : Option ℕ → Option (List ℕ) →
+      List ℕ → Option (List ℕ) → Option (List ℕ) → Option (List ℕ) → Option (List ℕ) → Wrong → Type 0
   RefusesDebug None record_name name input known old new why = RefusesFlat gives withholds record_name name input known old new why
   RefusesDebug (Some frames) record_name name input known old new why = RefusesOnFrames frames name input known old new why

@@ -13,8 +13,8 @@ EndsLike (Exited status) own = own ≡ Some (Exited status)
 EndsLike (Trapped hart cause pc value) own = own ≡ Some (Trapped hart cause pc value)
 EndsLike (Killed cause) own = own ≡ None
 
--- this ending behind so many steps, with what was written, is that of a flat run: some order of harts with as many steps leads to a flat process
--- with that output and that ending; no more steps are done than are allowed, and for the limit a program is ended behind as many
+-- A flat run has this ending after so many steps, with what was written: as many steps by some order of harts lead to a flat process with
+-- that output and ending. No more steps are done than are allowed. If the limit ended the program, it did as many as are allowed.
 pub record TellsFlatRun (limit : ℕ) (start : Start) (old new : Option (List ℕ)) (end : End) (steps : ℕ) : Type 0 where
   pub harts : List ℕ
   pub flat : Process

@@ -25,7 +25,7 @@ abbrev pub step_flow : Result ℕ MemoryFault → Flow
 step_flow (Err fault) = Other
 step_flow (Ok word) = insn_flow (insn_of word)
 
--- how deep a step of a hart stands, by the calls of all harts before and after it: a call where the caller stands
+-- the depth of a step of a hart, by the calls of all harts before and after it: a call has the depth of its caller
 abbrev pub flow_depth : Flow → ℕ → List HartCalls → List HartCalls → ℕ
 flow_depth Call hart old new = hart_depth (slice_get old hart)
 flow_depth Return hart old new = hart_depth (slice_get new hart)
@@ -59,16 +59,16 @@ unfoldable pub asked : TraceRequest → ℕ → List ToldStep → ℕ
 asked request number [] = 0
 asked request number (told ∷ later) = lines_for (is_asked request number told) + asked request (number + 1) later
 
--- the steps to come were told, up to the last line that is wanted, or all of them
+-- the steps to come were given, up to the last line that is requested, or all of them
 pub record Traces (request : TraceRequest) (old new : StepString) : Type 0 where
   pub steps : List ToldStep
   pub told : TellsAll steps old new
   pub few : asked request (old.done + 1) steps ≤ request.count
   pub over : (asked request (old.done + 1) steps ≡ request.count) ⊎ ((new.done ≡ new.limit) ⊎ IsSome new.process.ending)
 
--- `gives` tells, of a name, the bytes that a file of it may be found to hold
+-- `gives` relates a name to the bytes that a file of this name may be found to hold
 module _ (gives : List ℕ → List ℕ → Type 0) where
-  -- the steps that were told are those of the named image's program on the whole input, from its first one on
+  -- the steps that were given are those of the named image's program on the whole input, from its first one on
   pub record AnswersTrace (request : TraceRequest) (known : Option (List ℕ)) : Type 0 where
     pub image : ImageContent
     pub image_given : GivesImage gives request.image.now image

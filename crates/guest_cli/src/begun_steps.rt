@@ -1,4 +1,4 @@
-//! A program whose steps are to be told.
+//! A program whose steps are to be traced or counted.
 
 ghost use Rattle.std.specs.Prelude.{IfOk};
 ghost use Rattle.guest_cli.specs.BegunSteps.{BeginsSteps};

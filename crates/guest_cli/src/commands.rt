@@ -2,6 +2,7 @@
 
 use clap::{Arg, Command};
 use guest_io::{flag_arg, option_arg, with_arg};
+use guest_words::words_arg;
 use std::alloc::{AllocError, Global};
 
 pub(crate) fn guest<'a>(alloc: Global) -> Result<Command<'a>, AllocError> {
@@ -27,7 +28,7 @@ fn with<'a>(
 fn run<'a>(alloc: Global) -> Result<Command<'a>, AllocError> {
     let command = Ok(Command::new(alloc, "run"));
     let command = with_arg(command, option_arg(alloc, "frames"));
-    image(alloc, with_arg(command, option_arg(alloc, "limit")))
+    guest_image(alloc, with_arg(command, option_arg(alloc, "limit")))
 }
 
 fn trace<'a>(alloc: Global) -> Result<Command<'a>, AllocError> {
@@ -54,7 +55,7 @@ fn debug<'a>(alloc: Global) -> Result<Command<'a>, AllocError> {
 
 fn replay<'a>(alloc: Global) -> Result<Command<'a>, AllocError> {
     let command = Ok(Command::new(alloc, "replay"));
-    image(
+    guest_image(
         alloc,
         with_arg(command, Arg::new(alloc, "record").required(true)),
     )
@@ -66,4 +67,12 @@ fn image<'a>(
     command: Result<Command<'a>, AllocError>,
 ) -> Result<Command<'a>, AllocError> {
     with_arg(command, Arg::new(alloc, "image").required(true))
+}
+
+/// The same, with words for it.
+fn guest_image<'a>(
+    alloc: Global,
+    command: Result<Command<'a>, AllocError>,
+) -> Result<Command<'a>, AllocError> {
+    with_arg(image(alloc, command), words_arg(alloc))
 }

@@ -50,7 +50,7 @@ where
 }
 
 /// Answers them with a debugger on so many frames.
-fn debug_on_frames<'a, R, M, I, O>(
+fn debug_on_frames<'a, R: Folder + AllocGlobal, M: FrameMachine, I: Read + Drop, O: Write>(
     rt: &R,
     machine: &M,
     frames: u32,
@@ -58,11 +58,6 @@ fn debug_on_frames<'a, R, M, I, O>(
     lines: I,
     out: &mut O,
 ) -> Result<u8, Wrong<'a>>
-where
-    R: Folder + AllocGlobal,
-    M: FrameMachine,
-    I: Read + Drop,
-    O: Write,
     requires least { 4 ≤ frames }
     requires most { frames ≤ 4096 }
     ensures answered { IfOk result (λ status. DebugsOnFrames R.gives M.debugs frames
@@ -81,16 +76,12 @@ where
 }
 
 /// Answers them with a debugger on flat memory.
-fn debug_flat<'a, R, I, O>(
+fn debug_flat<'a, R: Folder + AllocGlobal, I: Read + Drop, O: Write>(
     rt: &R,
     request: DebugRequest<'a>,
     lines: I,
     out: &mut O,
 ) -> Result<u8, Wrong<'a>>
-where
-    R: Folder + AllocGlobal,
-    I: Read + Drop,
-    O: Write,
     ensures answered { IfOk result (λ status. DebugsFlat R.gives
         (option_map (λ s. s.now) request.entry.record) request.entry.image.now
         (option_map (λ s. s.now) request.entry.input) (I.remaining lines) (O.contents out.old)

@@ -19,17 +19,17 @@ pub trait FrameMachine {
     ghost use Rattle.flat_machine.specs.declared.end.End.{End};
     ghost use Rattle.debug_session.specs.declared.conversation.SessionFault.{SessionFault};
 
-    /// What a machine of so many frames may make of a program, up to so many steps: the ending, and behind how many steps.
+    /// How a program may end on a machine of so many frames, up to so many steps: the ending, and after how many steps.
     ghost runs: { ℕ → ℕ → Start → End → ℕ → Type 0 };
 
-    /// What a debugger on so many frames, of an image on an input, answers lines with: with these lines to read, and this output before
-    /// and behind, it ends so.
+    /// How a debugger on so many frames, of an image on an input, answers lines: it has these lines to read, this output before and
+    /// after, and this result.
     ghost debugs: { ℕ → ImageContent → List ℕ → Option (List ℕ) → Option (List ℕ) → Option (List ℕ)
         → Result (Unit {0}) SessionFault → Type 0 };
 
-    /// Runs an image on an input on so many frames, 4 to 4096, up to so many steps, writes what the program wrote once it has ended, and
-    /// tells how it ended and after how many steps: a run of the flat machine says the same, and for the limit it is ended behind as many
-    /// steps as are allowed.
+    /// Runs an image on an input on so many frames, 4 to 4096, up to so many steps. Once the program has ended, writes what it wrote, and
+    /// returns how it ended and after how many steps. A run of the flat machine gives the same result. If the limit ended the program,
+    /// it did as many steps as are allowed.
     fn run<'a, W: Write>(
         &self,
         alloc: Global,

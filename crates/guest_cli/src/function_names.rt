@@ -82,7 +82,7 @@ impl<'f> FunctionNames<'f> {
         is_true(&self.called, function)
     }
 
-    /// The level at which a call's caller is told: that of its steps, where the function was called within itself.
+    /// The level that is printed for a call's caller: that of its steps, where the function was called within itself.
     pub(crate) fn caller_level(&self, call: CallSite) -> u32 {
         if self.has_inner(self.function_of(call.site)) {
             call.from_level
@@ -92,7 +92,7 @@ impl<'f> FunctionNames<'f> {
     }
 
     /// Writes a function's name: that of its symbol, with the address where others have the same, or the address. Inner calls have `'2`
-    /// behind it.
+    /// after the name.
     pub(crate) fn write_name<O: Write>(
         &self,
         function: u32,

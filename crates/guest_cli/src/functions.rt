@@ -12,7 +12,7 @@ use std::alloc::AllocError;
 use std::io;
 use std::io::Write;
 
-/// How deep a step stands: a call where the caller stands, another step where its hart goes on.
+/// The depth of a step: for a call that of its caller, for another step the depth at which its hart goes on.
 pub(crate) fn depth_of(
     depths: &mut Depths,
     told: &ToldStep,
@@ -58,7 +58,7 @@ pub(crate) fn is_of_function(flow: Flow) -> bool
     }
 }
 
-/// Writes a call or a return: the step's number, the hart, and two blanks for each call that it stands in; then what is called and from
+/// Writes a call or a return: the step's number, the hart, and two blanks for each call that it is in. Then follows what is called and from
 /// where, or where the hart goes back to and with which answer in x10.
 pub(crate) fn write_flow<O: Write>(
     number: u64,

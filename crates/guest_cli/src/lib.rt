@@ -1,4 +1,4 @@
-//! The program `guest`: runs a program as a simulator does, tells its steps, and counts where it spends them.
+//! The program `guest`: runs a program as a simulator does, prints its steps, and counts where it spends them.
 #![tactic(auto)]
 
 mod begun_steps;

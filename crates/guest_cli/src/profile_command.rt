@@ -95,7 +95,7 @@ fn write_tables<'a, O: Write>(
     Ok(())
 }
 
-/// Counts all steps that are to come, and tells how the program ended.
+/// Counts all steps that are to come, and returns how the program ended.
 fn count_steps<'a>(steps: &mut StepString, profile: &mut Profile) -> Result<End, Fault<'a>>
     ensures { IfOk result (CountsAll steps.old steps.new profile.old
         profile.new) }

@@ -41,7 +41,7 @@ pub(crate) struct Tables {
     pub(crate) calls: Vec<CallRow>,
 }
 
-/// Of an instruction's word that ran so often, and went on elsewhere than behind it so often.
+/// The sums of an instruction's word that ran so often, and so often was not followed by the instruction after it in memory.
 fn sums_of(word: u32, steps: u64, taken: u64) -> Sums {
     match decode(word) {
         Some(insn) => Sums::of(insn, steps, taken),

@@ -5,7 +5,7 @@ ghost use Rattle.flat_machine.specs.Process.{Process, opening};
 ghost use Rattle.record_commands.specs.Replayed.{FailsReplay};
 ghost use Rattle.run_records.specs.Records.{value_of};
 ghost use Rattle.run_records.specs.Replaying.{Replays};
-ghost use Rattle.guest_cli.specs.Debugged.{GivesInputOf, IsNoInputOf, input_word};
+ghost use Rattle.guest_cli.specs.Debugged.{GivesInputOf, GivesNoInputOf, input_word};
 
 use crate::wrong::Wrong;
 use flat_machine::FlatProcess;
@@ -23,7 +23,7 @@ pub(crate) fn read_recorded_input<'a, R: Folder + AllocGlobal>(
 ) -> Result<Vec<u8>, Wrong<'a>>
     ensures given { IfOk result (λ input. GivesInputOf R.gives
         (option_map (λ s. s.now) name.entry) told.now.input input.items) }
-    ensures refused { IfErr result (IsNoInputOf R.gives R.withholds
+    ensures refused { IfErr result (GivesNoInputOf R.gives R.withholds
         (option_map (λ s. s.now) name.entry) told.now.input) }
 {
     let input = read_input(rt, name)?;

@@ -6,7 +6,7 @@ ghost use Rattle.std.specs.Option.{ForSome};
 use record_commands::ReplayRequest;
 
 /// What is asked for on the command line.
-#[derive(Clone, Copy, Debug)]
+#[derive(Debug, Drop)]
 pub(crate) enum Request<'a> {
     Run(RunRequest<'a>),
     Trace(TraceRequest<'a>),
@@ -16,25 +16,27 @@ pub(crate) enum Request<'a> {
 }
 
 /// Run a program on standard input.
-#[derive(Clone, Copy, Debug)]
+#[derive(Debug, Drop)]
 pub(crate) struct RunRequest<'a> {
     /// How many frames, 4 to 4096; None: flat memory.
     pub(crate) frames: Option<u32>,
     /// The most steps.
     pub(crate) limit: u64,
     pub(crate) image: &'a str,
+    /// The words that it is given, if any: its name, and more.
+    pub(crate) argv: Vec<&'a str>,
 }
 
 /// Tell the steps of a program.
 #[derive(Clone, Copy, Debug)]
 pub(crate) struct TraceRequest<'a> {
-    /// The first step that is told, counted from 1.
+    /// The first step that is printed, counted from 1.
     pub(crate) from: u64,
     /// How many lines are written at most.
     pub(crate) count: u64,
-    /// Whose steps are told; None: all harts'.
+    /// Whose steps are printed; None: all harts'.
     pub(crate) hart: Option<u32>,
-    /// Whether calls and returns alone are told.
+    /// Whether only calls and returns are printed.
     pub(crate) is_of_functions: bool,
     pub(crate) image: &'a str,
 }

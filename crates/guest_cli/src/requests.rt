@@ -7,6 +7,7 @@ use crate::request::{DebugRequest, ProfileRequest, Request, RunRequest, TraceReq
 use crate::wrong::Wrong;
 use clap::ArgMatches;
 use guest_io::{UsageFault, is_given, number, text, wrong_words};
+use guest_words::argv_of;
 use record_commands::ReplayRequest;
 use std::alloc::Global;
 use std::convert::AsStr;
@@ -14,34 +15,39 @@ use std::convert::AsStr;
 /// How many rows a table of a profile has where no number is asked for.
 const USUAL_ROWS: u32 = 20;
 
-/// The request that the words behind the program's name make.
+/// The request that the words after the program's name make.
 pub(crate) fn read_request<'a, S: AsStr>(
     alloc: Global,
     words: &'a [S],
 ) -> Result<Request<'a>, Wrong<'a>> {
     match guest(alloc)?.try_get_matches_from(words) {
-        Ok(matches) => Ok(request_of(&matches)?),
+        Ok(matches) => Ok(request_of(alloc, &matches)?),
         Err(error) => Err(Wrong::Usage(wrong_words(alloc, &error))),
     }
 }
 
 /// The request of words that name a command and what it takes.
-fn request_of<'a>(matches: &ArgMatches<'a>) -> Result<Request<'a>, UsageFault<'a>> {
+fn request_of<'a>(alloc: Global, matches: &ArgMatches<'a>) -> Result<Request<'a>, UsageFault<'a>> {
     match matches.subcommand() {
-        Some(("run", matches)) => Ok(Request::Run(run_request(matches)?)),
+        Some(("run", matches)) => Ok(Request::Run(run_request(alloc, matches)?)),
         Some(("trace", matches)) => Ok(Request::Trace(trace_request(matches)?)),
         Some(("profile", matches)) => Ok(Request::Profile(profile_request(matches)?)),
-        Some(("replay", matches)) => Ok(Request::Replay(replay_request(matches))),
+        Some(("replay", matches)) => Ok(Request::Replay(replay_request(alloc, matches)?)),
         Some((_, matches)) => Ok(Request::Debug(debug_request(matches)?)),
         None => Ok(Request::Debug(debug_request(matches)?)),
     }
 }
 
-fn run_request<'a>(matches: &ArgMatches<'a>) -> Result<RunRequest<'a>, UsageFault<'a>> {
+fn run_request<'a>(
+    alloc: Global,
+    matches: &ArgMatches<'a>,
+) -> Result<RunRequest<'a>, UsageFault<'a>> {
+    let image = image(matches);
     Ok(RunRequest {
         frames: frames(matches)?,
         limit: steps_or(matches, "limit", u64::MAX)?,
-        image: image(matches),
+        image,
+        argv: argv_of(alloc, matches, image)?,
     })
 }
 
@@ -82,11 +88,16 @@ fn debug_request<'a>(matches: &ArgMatches<'a>) -> Result<DebugRequest<'a>, Usage
     })
 }
 
-fn replay_request<'a>(matches: &ArgMatches<'a>) -> ReplayRequest<'a> {
-    ReplayRequest {
+fn replay_request<'a>(
+    alloc: Global,
+    matches: &ArgMatches<'a>,
+) -> Result<ReplayRequest<'a>, UsageFault<'a>> {
+    let image = image(matches);
+    Ok(ReplayRequest {
         record: text(matches, "record"),
-        image: image(matches),
-    }
+        image,
+        argv: argv_of(alloc, matches, image)?,
+    })
 }
 
 /// The image's name.

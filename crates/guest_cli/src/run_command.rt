@@ -1,26 +1,30 @@
 //! `guest run`: a program on standard input, its bytes on standard output.
 
-ghost use Rattle.std.specs.Prelude.{◌≡◌, ◌≤◌, None, true, IfOk, drop, length};
+ghost use Rattle.std.specs.Prelude.{◌≡◌, ◌≤◌, None, true, IfOk, drop, length, map};
 ghost use Rattle.std.specs.Io.KnownBytes.{Appends};
 ghost use Rattle.flat_machine.specs.ByTurns.{first_turn};
 ghost use Rattle.flat_machine.specs.Process.{Process, is_live, opening};
 ghost use Rattle.guest_cli.specs.Answered.{AnswersRun, TellsRun};
 ghost use Rattle.guest_cli.specs.TurnRuns.{TellsTurns};
 ghost use Rattle.elf_image.specs.Start.{start_of};
+ghost use Rattle.guest_words.specs.Given.{GivesWithWords};
 
 use crate::frame_machine::FrameMachine;
 use crate::request::RunRequest;
 use elf_image::Image;
 use flat_machine::{End, FlatProcess, KillCause};
 use guest_io::{read_whole, status_of, tell_end};
-use image_files::{Fault, Folder, read_image};
+use guest_words::read_with_words;
+use image_files::{Fault, Folder, image_in};
+use record_commands::RecordsFault;
 use std::alloc::Global;
 use std::io::{Read, Write};
 
 /// After how many steps output is written at the latest.
 const PIECE: u64 = 1 << 16;
 
-/// Runs an image on an input, on flat memory or on so many frames, and answers the exit status. The image is read before the input.
+/// Runs an image with words on an input, on flat memory or on so many frames, and answers the exit status. The image is read before the
+/// input.
 pub(crate) fn run_run<'a, R, M, I, O, E>(
     rt: &R,
     machine: &M,
@@ -28,43 +32,53 @@ pub(crate) fn run_run<'a, R, M, I, O, E>(
     input: I,
     out: &mut O,
     err: &mut E,
-) -> Result<u8, Fault<'a>>
+) -> Result<u8, RecordsFault<'a>>
 where
     R: Folder + AllocGlobal,
     M: FrameMachine,
     I: Read + Drop,
     O: Write,
     E: Write,
-    ensures { IfOk result (AnswersRun R.gives M.runs request.entry.image.now request.entry.frames
-        request.entry.limit (I.remaining input) (O.contents out.old) (O.contents out.new)) }
+    ensures { IfOk result (AnswersRun (GivesWithWords R.gives (map (λ s.
+        s.now) request.entry.argv.items)) M.runs request.entry.image.now request.entry.frames
+        request.entry.limit
+        (I.remaining input) (O.contents out.old) (O.contents out.new)) }
 {
     let alloc = rt.alloc();
-    let image = read_image(rt, request.image)?;
+    let RunRequest {
+        frames,
+        limit,
+        image: name,
+        argv,
+    } = request;
+    let file = read_with_words(rt, name, argv.as_slice())?;
+    let image = image_in(alloc, file, name)?;
     let input = read_whole(alloc, input)?;
-    let (end, steps) = run_image(alloc, machine, request, image, input, out)?;
+    let (end, steps) = run_image(alloc, machine, frames, limit, image, input, out)?;
     tell_end(end, steps, err);
     Ok(status_of(end))
 }
 
-/// Runs an image on an input, on flat memory or on so many frames, and tells the end and after how many steps it came.
+/// Runs an image on an input, on flat memory or on so many frames, and returns the end and after how many steps it came.
 fn run_image<'a, M: FrameMachine, O: Write>(
     alloc: Global,
     machine: &M,
-    request: RunRequest<'a>,
+    frames: Option<u32>,
+    limit: u64,
     image: Image,
     input: Vec<u8>,
     out: &mut O,
 ) -> Result<(End, u64), Fault<'a>>
-    ensures { IfOk result (λ done. TellsRun M.runs request.entry.frames request.entry.limit
-        (start_of image input.items) (O.contents out.old) (O.contents out.new) done.0 done.1) }
+    ensures { IfOk result (λ done. TellsRun M.runs frames limit (start_of image input.items)
+        (O.contents out.old) (O.contents out.new) done.0 done.1) }
 {
-    if let Some(frames) = request.frames {
-        return machine.run(alloc, frames, image, input, request.limit, out);
+    if let Some(frames) = frames {
+        return machine.run(alloc, frames, image, input, limit, out);
     }
-    run_flat(alloc, image, input, request.limit, out)
+    run_flat(alloc, image, input, limit, out)
 }
 
-/// Runs an image on an input on flat memory, to its end or to the limit, and tells the end and after how many steps it came.
+/// Runs an image on an input on flat memory, to its end or to the limit, and returns the end and after how many steps it came.
 fn run_flat<'a, O: Write>(
     alloc: Global,
     image: Image,
@@ -84,7 +98,7 @@ fn run_flat<'a, O: Write>(
     Ok(done)
 }
 
-/// Runs a process to its end or to the limit, writes its output as it comes, and tells the end and after how many steps it came.
+/// Runs a process to its end or to the limit, writes its output as it comes, and returns the end and after how many steps it came.
 fn run_to_end<'a, O: Write>(
     process: &mut FlatProcess,
     limit: u64,
@@ -114,7 +128,7 @@ fn run_to_end<'a, O: Write>(
     }
 }
 
-/// Writes the bytes behind those that are written, at once, and tells how many are written then.
+/// Writes the bytes after those that are written, at once, and returns how many are written then.
 fn write_more<'a, O: Write>(output: &[u8], written: usize, out: &mut O) -> Result<usize, Fault<'a>>
     requires { written ≤ length output.now }
     ensures all { IfOk result (λ all. all ≡ length output.now) }

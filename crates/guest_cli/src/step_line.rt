@@ -12,7 +12,7 @@ const A7: u8 = 17;
 
 const A0: u8 = 10;
 
-/// Writes a step: its number, the hart, its pc, the word and its text, and behind two blanks what it changed: the register and its new
+/// Writes a step: its number, the hart, its pc, the word and its text. After two blanks follows what it changed: the register and its new
 /// value, the bytes that are stored, or how the process ended.
 pub(crate) fn write_step<O: Write>(
     number: u64,
@@ -68,7 +68,7 @@ fn write_register<O: Write>(insn: Insn, after: &Regs, out: &mut O) -> io::Result
     }
 }
 
-/// The address of a load; of a store also the bytes that stand there then.
+/// Writes the address of a load or a store; for a store also the bytes that are there after it.
 fn write_access<O: Write>(
     access: DataAccess,
     process: &FlatProcess,

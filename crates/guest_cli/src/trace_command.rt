@@ -52,7 +52,7 @@ fn write_steps<'a, O: Write>(
     Ok(())
 }
 
-/// Writes a step, if it is one that is asked for, and tells whether it is.
+/// Writes a step, if it is one that is asked for, and returns whether it is.
 fn write_one<'a, O: Write>(
     steps: &StepString,
     told: &ToldStep,

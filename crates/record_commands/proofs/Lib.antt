@@ -1,5 +1,6 @@
 pub mod RowLaws
 pub mod Places
+pub mod RefusedWords
 pub mod RowTexts
 pub mod SavedRows
 pub mod SoFar

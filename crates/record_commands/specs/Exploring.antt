@@ -28,8 +28,8 @@ unfoldable pub AllRowsCame : ImageContent → List ℕ → Fingerprint → ℕ �
 AllRowsCame image input file limit [] = ⊤
 AllRowsCame image input file limit (row ∷ rows) = ((closing : Closing) × (CameTo image input file limit closing × IsLike closing row)) × AllRowsCame image input file limit rows
 
--- Rows count so many runs, from a seed on, or fewer where as many rows came as are wanted. Each is saved. `takes` tells, of a name, of which bytes
--- a file of it was made.
+-- Rows count so many runs, from a seed on. The runs are fewer if as many rows came as are wanted. Each row is saved. `takes` relates a name
+-- to the bytes of which a file of this name was made.
 pub record IsExplored (takes : List ℕ → List ℕ → Type 0) (request : ExploreRequest) (image : ImageContent) (input : List ℕ) (file : Fingerprint) (rows : List Row) : Type 0 where
   pub closings : List Closing
   pub came : AllCame image input file request.limit closings
@@ -38,7 +38,7 @@ pub record IsExplored (takes : List ℕ → List ℕ → Type 0) (request : Expl
   pub over : (length closings ≡ request.runs) ⊎ (¬ GoesOn request.until rows)
   pub saved : AreSaved takes image input file request.limit (option_map (λ s. s.now) request.folder) rows
 
--- rows count the runs of the named image on the whole input; `gives` tells, of a name, the bytes that a file of it may be found to hold
+-- rows count the runs of the named image on the whole input; `gives` relates a name to the bytes that its file may be found to hold
 pub record Explores (gives takes : List ℕ → List ℕ → Type 0) (request : ExploreRequest) (known : Option (List ℕ)) (rows : List Row) : Type 0 where
   pub file : List ℕ
   pub file_given : gives request.image.now file

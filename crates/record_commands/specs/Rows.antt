@@ -16,7 +16,7 @@ row_of seed closing = record { end = closing.end; output = closing.output; seed 
 abbrev pub more : Row → Row
 more row = record row { times = row.times + 1 }
 
--- a run of this seed is counted in the row that it is like, or begins a row behind the others
+-- a run of this seed is counted in the row that it is like, or begins a row after the others
 unfoldable pub Counts : ℕ → Closing → List Row → List Row → Type 0
 Counts seed closing [] new = new ≡ row_of seed closing ∷ []
 Counts seed closing (row ∷ rows) new =

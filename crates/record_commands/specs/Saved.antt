@@ -1,5 +1,5 @@
 -- Records of runs that are saved.
-use Rattle.std.specs.Prelude.{◌≡◌, ℕ, ⊤, List, [], ◌∷◌, ◌++◌, codes, Option, Some, None}
+use Rattle.std.specs.Prelude.{◌≡◌, ◌≢◌, ◌⊎◌, ℕ, ⊤, List, [], ◌∷◌, ◌++◌, codes, Option, Some, None, Ok}
 use Rattle.std.specs.Fmt.{decimal}
 use Rattle.elf_image.specs.Image.{ImageContent}
 use Rattle.flat_machine.specs.Process.{Process, opening}
@@ -7,10 +7,12 @@ use Rattle.flat_machine.specs.Schedule.{IsJoined}
 use Rattle.guest_records.specs.GoingOn.{EndsWithin}
 use Rattle.run_records.specs.Fitting.{IsRecord}
 use Rattle.run_records.specs.Prints.{print_of}
-use Rattle.run_records.specs.Records.{RecordValue, record_text}
+use Rattle.run_records.specs.Records.{RecordValue, record_of, record_text}
 use Rattle.run_records.specs.Replaying.{Replays}
 use Rattle.run_records.specs.declared.fingerprint.Fingerprint.{Fingerprint}
 use Rattle.record_commands.specs.Rows.{IsLike}
+use Rattle.record_commands.specs.declared.fault.RecordsFault.{RecordsFault}
+use Rattle.record_commands.specs.declared.fault.RecordsFault.TheVariants as fault
 use Rattle.record_commands.specs.declared.row.Row.{Row}
 
 -- A record of an image's file and an input replays on them. It is of as many steps as are allowed, or of fewer where the process has ended or the
@@ -28,7 +30,32 @@ pub record IsRunOf (image : ImageContent) (input : List ℕ) (file : Fingerprint
 abbrev pub record_name : List ℕ → ℕ → List ℕ
 record_name folder seed = folder ++ codes "/" ++ decimal seed ++ codes ".record"
 
--- `takes` tells, of a name, of which bytes a file of it was made
+-- ---- what is not replaced
+
+-- the fault is that the file of this name holds a record of another image, of which P holds
+abbrev pub IfOther : (List ℕ → Type 0) → RecordsFault → Type 0
+IfOther P (fault.OtherRecord folder seed) = P (record_name folder.now seed)
+IfOther P _ = ⊤
+
+-- a file holds a record of another image than this
+pub record HoldsOther (gives : List ℕ → List ℕ → Type 0) (name : List ℕ) (image : Fingerprint) : Type 0 where
+  pub text : List ℕ
+  pub given : gives name text
+  pub told : RecordValue
+  pub is : record_of text ≡ Ok told
+  pub other : told.image ≢ image
+
+-- a file can't be read, or holds no record of another image
+abbrev pub SparesOthers : (gives : List ℕ → List ℕ → Type 0) (withholds : List ℕ → Type 0) → List ℕ → Fingerprint → Type 0
+SparesOthers gives withholds name image =
+    withholds name ⊎ ((text : List ℕ) × (gives name text × ((told : RecordValue) → record_of text ≡ Ok told → told.image ≡ image)))
+
+-- a file was made of the text of a record, and held no record of another image before
+abbrev pub Replaces : (gives : List ℕ → List ℕ → Type 0) (withholds : List ℕ → Type 0) (takes : List ℕ → List ℕ → Type 0) → List ℕ → List ℕ → Type 0
+Replaces gives withholds takes name text =
+    takes name text × ((told : RecordValue) × ((text ≡ record_text told) × SparesOthers gives withholds name told.image))
+
+-- `takes` relates a name to the bytes of which a file of this name was made
 module _ (takes : List ℕ → List ℕ → Type 0) where
   -- where a folder is named, a file of it was made of the record of the run by a seed
   abbrev pub SavesIn : Option (List ℕ) → ℕ → RecordValue → Type 0

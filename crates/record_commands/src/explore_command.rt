@@ -1,8 +1,10 @@
 //! `guest explore`: what a program may come to, by schedules that are chosen at random.
 
-ghost use Rattle.std.specs.Prelude.{List, IfOk, OnOk};
+ghost use Rattle.std.specs.Prelude.{ℕ, List, IfErr, IfOk, OnOk};
 ghost use Rattle.std.specs.Io.KnownBytes.{Appends};
+ghost use Rattle.run_records.specs.Prints.{print_of};
 ghost use Rattle.record_commands.specs.Exploring.{Explores};
+ghost use Rattle.record_commands.specs.Saved.{HoldsOther, IfOther, Replaces};
 ghost use Rattle.record_commands.specs.Tables.{shown_text};
 ghost use Rattle.record_commands.specs.declared.row.Row.{Row};
 
@@ -31,9 +33,11 @@ where
     I: Read + Drop,
     O: Write,
     E: Write,
-    ensures { IfOk result (λ _. (rows : List Row) × (Explores R.gives R.takes request.entry
-        (I.remaining input) rows × Appends (O.contents out.old) (O.contents out.new)
-        (shown_text request.entry.is_csv rows))) }
+    ensures explored { IfOk result (λ _. (rows : List Row) × (Explores R.gives
+        (Replaces R.gives R.withholds R.takes) request.entry (I.remaining input) rows × Appends
+        (O.contents out.old) (O.contents out.new) (shown_text request.entry.is_csv rows))) }
+    ensures other { IfErr result (IfOther (λ name. (file : List ℕ) × (R.gives
+        request.entry.image.now file × HoldsOther R.gives name (print_of file)))) }
 {
     let alloc = rt.alloc();
     let file = rt.read(request.image)?;

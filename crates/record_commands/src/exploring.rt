@@ -1,10 +1,10 @@
 //! Runs by schedules that are chosen at random, and what they came to.
 
-ghost use Rattle.std.specs.Prelude.{◌≡◌, ◌<◌, ◌^◌, ◌↔◌, IsTrue, IfOk, OnOk, option_map};
+ghost use Rattle.std.specs.Prelude.{◌≡◌, ◌<◌, ◌^◌, ◌↔◌, IsTrue, IfErr, IfOk, OnOk, option_map};
 ghost use Rattle.run_records.specs.Records.{value_of};
 ghost use Rattle.record_commands.specs.Exploring.{IsExplored};
 ghost use Rattle.record_commands.specs.Rows.{Counts, GoesOn, times_of};
-ghost use Rattle.record_commands.specs.Saved.{AreNoted, IsRunOf};
+ghost use Rattle.record_commands.specs.Saved.{AreNoted, HoldsOther, IfOther, IsRunOf, Replaces};
 
 use crate::fault::RecordsFault;
 use crate::progress::{show_progress, show_size};
@@ -24,12 +24,12 @@ use std::io::Write;
 #[derive(Clone, Copy)]
 pub(crate) struct Program<'p> {
     pub(crate) image: &'p Image,
-    /// What tells the image's file from others.
+    /// The fingerprint that distinguishes the image's file from others.
     pub(crate) file: Fingerprint,
     pub(crate) input: &'p [u8],
 }
 
-/// Runs a program by as many seeds as are asked for, and tells what the runs came to. Saves the record of the first run of each row, as
+/// Runs a program by as many seeds as are asked for, and returns what the runs came to. Saves the record of the first run of each row, as
 /// soon as it is there.
 pub(crate) fn explore<'a, R: Folder + WholeFiles + AllocGlobal, E: Write>(
     rt: &R,
@@ -37,8 +37,9 @@ pub(crate) fn explore<'a, R: Folder + WholeFiles + AllocGlobal, E: Write>(
     request: &ExploreRequest<'a>,
     err: &mut E,
 ) -> Result<Vec<Row>, RecordsFault<'a>>
-    ensures { IfOk result (λ rows. IsExplored R.takes request.now program.now.image.now
-        program.now.input.now program.now.file rows.items) }
+    ensures explored { IfOk result (λ rows. IsExplored (Replaces R.gives R.withholds R.takes)
+        request.now program.now.image.now program.now.input.now program.now.file rows.items) }
+    ensures other { IfErr result (IfOther (λ name. HoldsOther R.gives name program.now.file)) }
 {
     let way = way_of(rt.alloc(), program, request, err)?;
     let mut rows = Vec::new(rt.alloc());
@@ -66,8 +67,9 @@ fn note<'a, R: Folder + WholeFiles + AllocGlobal>(
 ) -> Result<(), RecordsFault<'a>>
     requires few { times_of rows.old.items < 2 ^ 63 }
     ensures counts { OnOk result (Counts seed told.now.closing rows.old.items rows.new.items) }
-    ensures saved { OnOk result (AreNoted R.takes (option_map (λ s. s.now) folder.entry)
-        (value_of told.now) rows.old.items rows.new.items) }
+    ensures saved { OnOk result (AreNoted (Replaces R.gives R.withholds R.takes) (option_map (λ s.
+        s.now) folder.entry) (value_of told.now) rows.old.items rows.new.items) }
+    ensures other { IfErr result (IfOther (λ name. HoldsOther R.gives name told.now.image)) }
 {
     if count(rows, seed, &told.closing)? {
         save(rt, folder, seed, told)?;

@@ -1,5 +1,6 @@
 //! Why a command stops.
 
+use guest_words::WordsFault;
 use image_files::Fault;
 use run_records::{RecordFault, ReplayFault};
 use std::alloc::AllocError;
@@ -12,6 +13,9 @@ pub enum RecordsFault<'a> {
     /// Of a file, of the input, of output or of memory.
     #[error("{0}")]
     Fault(Fault<'a>),
+    /// Words that the image does not take.
+    #[error("{0}")]
+    Words(WordsFault<'a>),
     /// The file of this name is no record.
     #[error("{0}: {1}")]
     NoRecord(&'a str, RecordFault),
@@ -26,6 +30,9 @@ pub enum RecordsFault<'a> {
     /// The record of the run by this seed can't be written into this folder.
     #[error("{0}/{1}.record: cannot write")]
     NotSaved(&'a str, u64),
+    /// The file of this folder and seed holds a record of another image, which is not replaced.
+    #[error("{0}/{1}.record: a record of another image")]
+    OtherRecord(&'a str, u64),
 }
 
 impl<'a> From<Fault<'a>> for RecordsFault<'a> {
@@ -36,6 +43,20 @@ impl<'a> From<Fault<'a>> for RecordsFault<'a> {
 
     fn from(why: Fault<'a>) -> Self {
         RecordsFault::Fault(why)
+    }
+}
+
+impl<'a> From<WordsFault<'a>> for RecordsFault<'a> {
+    ghost use Rattle.std.specs.Prelude.{◌≡◌};
+    ghost use Rattle.record_commands.specs.Replayed.{words_fault};
+
+    ghost from_gives = { λ why made. made ≡ words_fault why };
+
+    fn from(why: WordsFault<'a>) -> Self {
+        match why {
+            WordsFault::Fault(why) => RecordsFault::Fault(why),
+            why => RecordsFault::Words(why),
+        }
     }
 }
 

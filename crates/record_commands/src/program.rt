@@ -83,7 +83,7 @@ where
     Ok(run_explore(rt, request, input, out, err)?)
 }
 
-/// Prints why the command stopped. Where that can't be written, the status alone shows it.
+/// Prints why the command stopped. If this can't be written, only the status shows it.
 fn fail<E: Write>(fault: &ExploreFault<'_>, err: &mut E) -> u8 {
     let _ = writeln!(err, "guest: {fault}");
     let _ = err.flush();

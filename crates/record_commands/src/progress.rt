@@ -3,7 +3,7 @@
 use guest_records::RunSize;
 use std::io::Write;
 
-/// The line is written anew behind so many runs.
+/// The line is written again after every so many runs.
 const OFTEN: u32 = 16;
 
 /// Shows how many runs are done and how many rows these came to, now and then. Where that can't be written, nothing is lost.

@@ -1,9 +1,10 @@
 //! `guest replay`: a program by the turns of a record, its bytes on standard output.
 
-ghost use Rattle.std.specs.Prelude.{◌≡◌, ◌⊎◌, List, ℕ, IfErr, IfOk, OnOk};
+ghost use Rattle.std.specs.Prelude.{◌≡◌, ◌⊎◌, List, [], ℕ, IfErr, IfOk, OnOk, map};
 ghost use Rattle.std.specs.Io.KnownBytes.{Appends};
 ghost use Rattle.elf_image.specs.Image.{ImageContent};
 ghost use Rattle.flat_machine.specs.Process.{opening};
+ghost use Rattle.guest_words.specs.Given.{GivesWithWords};
 ghost use Rattle.image_files.specs.declared.fault.Fault.TheVariants.{CannotWrite};
 ghost use Rattle.run_records.specs.Records.{value_of};
 ghost use Rattle.run_records.specs.Replaying.{Replays};
@@ -25,6 +26,7 @@ use crate::request::ReplayRequest;
 use elf_image::Image;
 use flat_machine::FlatProcess;
 use guest_io::{read_whole, status_of, tell_end};
+use guest_words::read_with_words;
 use image_files::{Fault, Folder, image_in};
 use run_records::{Record, RecordFault, ReplayFault, is_print_of, read_record, replay};
 use std::alloc::Global;
@@ -47,14 +49,23 @@ where
     O: Write,
     E: Write,
     ensures answered { IfOk result (AnswersReplay R.gives request.entry.record.now
-        request.entry.image.now (I.remaining input) (O.contents out.old) (O.contents out.new)) }
+        request.entry.image.now (map (λ s. s.now) request.entry.argv.items) (I.remaining input)
+        (O.contents out.old) (O.contents out.new)) }
     ensures refused { IfErr result (RefusesReplay R.gives R.withholds request.entry.record.now
-        request.entry.image.now (I.remaining input)) }
+        request.entry.image.now (map (λ s. s.now) request.entry.argv.items) (I.remaining
+        input)) }
     ensures unwritten { IfErr result (λ why. (why ≡ fault.Fault CannotWrite) ⊎
         (O.contents out.new ≡ O.contents out.old)) }
 {
     let told = read_told(rt, request.record)?;
-    let process = replayed(rt, request, &told, input)?;
+    let process = replayed(
+        rt,
+        request.record,
+        request.image,
+        request.argv.as_slice(),
+        &told,
+        input,
+    )?;
     write_output(process.output(), out)?;
     tell_end(told.closing.end, told.closing.steps, err);
     Ok(status_of(told.closing.end))
@@ -84,26 +95,29 @@ pub fn read_told<'a, R: Folder + AllocGlobal>(
     }
 }
 
-/// The process of the image on the input, run by the turns of a record of both.
+/// The process of the image with words on the input, run by the turns of a record of both.
 fn replayed<'a, R: Folder + AllocGlobal, I: Read + Drop>(
     rt: &R,
-    request: ReplayRequest<'a>,
+    record: &'a str,
+    image: &'a str,
+    words: &[&str],
     told: &Record,
     input: I,
 ) -> Result<FlatProcess, RecordsFault<'a>>
-    ensures replayed { IfOk result (λ process. (image : ImageContent) × (GivesImageOf R.gives
-        request.entry.image.now told.now.image image × ((bytes : List ℕ) × (IsInputOf told.now.input
-        (I.remaining input) bytes × Replays (value_of told.now) (opening image bytes) process)))) }
-    ensures refused { IfErr result (RefusesProcess R.gives R.withholds request.entry.record.now
-        request.entry.image.now (I.remaining input) (value_of told.now)) }
+    ensures replayed { IfOk result (λ process. (content : ImageContent) ×
+        (GivesImageOf (GivesWithWords R.gives (map (λ s. s.now) words.now)) image.now
+        told.now.image content × ((bytes : List ℕ) × (IsInputOf told.now.input
+        (I.remaining input) bytes × Replays (value_of told.now) (opening content bytes) process)))) }
+    ensures refused { IfErr result (RefusesProcess R.gives R.withholds record.now image.now (map (λ s.
+        s.now) words.now) (I.remaining input) (value_of told.now)) }
 {
-    let image = read_recorded_image(rt, request.image, told)?;
+    let image = read_image_with_words(rt, image, words, told)?;
     let input = read_same_input(rt.alloc(), input, told)?;
     let mut process = FlatProcess::new(rt.alloc(), &image, input)?;
     match replay(rt.alloc(), &mut process, told) {
         Ok(()) => Ok(process),
         Err(ReplayFault::NoMemory) => Err(RecordsFault::Fault(Fault::NoMemory)),
-        Err(fault) => Err(RecordsFault::NoReplay(request.record, fault)),
+        Err(fault) => Err(RecordsFault::NoReplay(record, fault)),
     }
 }
 
@@ -113,10 +127,26 @@ pub fn read_recorded_image<'a, R: Folder + AllocGlobal>(
     name: &'a str,
     told: &Record,
 ) -> Result<Image, RecordsFault<'a>>
-    ensures image { IfOk result (GivesImageOf R.gives name.now told.now.image) }
-    ensures refused { IfErr result (IsNoImageOf R.gives R.withholds name.now told.now.image) }
+    ensures image { IfOk result (GivesImageOf (GivesWithWords R.gives []) name.now
+        told.now.image) }
+    ensures refused { IfErr result (IsNoImageOf R.gives R.withholds [] name.now told.now.image) }
 {
-    let file = rt.read(name)?;
+    read_image_with_words(rt, name, &[], told)
+}
+
+/// The same of its file with words.
+fn read_image_with_words<'a, R: Folder + AllocGlobal>(
+    rt: &R,
+    name: &'a str,
+    words: &[&str],
+    told: &Record,
+) -> Result<Image, RecordsFault<'a>>
+    ensures image { IfOk result (GivesImageOf (GivesWithWords R.gives (map (λ s.
+        s.now) words.now)) name.now told.now.image) }
+    ensures refused { IfErr result (IsNoImageOf R.gives R.withholds (map (λ s.
+        s.now) words.now) name.now told.now.image) }
+{
+    let file = read_with_words(rt, name, words)?;
     if !is_print_of(&told.image, file.as_slice()) {
         return Err(RecordsFault::OtherImage(name));
     }

@@ -1,10 +1,12 @@
 //! What is asked for.
 
 /// Run a program by the turns of a record.
-#[derive(Clone, Copy, Debug)]
+#[derive(Debug, Drop)]
 pub struct ReplayRequest<'a> {
     pub record: &'a str,
     pub image: &'a str,
+    /// The words that it is given, if any: its name, and more.
+    pub argv: Vec<&'a str>,
 }
 
 /// Run a program by schedules that are chosen at random.

@@ -7,7 +7,7 @@ use crate::row::Row;
 use run_records::Closing;
 use std::alloc::AllocError;
 
-/// Counts a run in the row that it is like, or begins a row behind the others. Tells whether it began one.
+/// Counts a run in the row that it is like, or begins a row after the others. Returns whether it began one.
 pub(crate) fn count(rows: &mut Vec<Row>, seed: u64, closing: &Closing) -> Result<bool, AllocError>
     requires few { times_of rows.old.items < 2 ^ 63 }
     ensures counts { OnOk result (Counts seed closing.now rows.old.items rows.new.items) }

@@ -1,5 +1,5 @@
 -- What a record of a run on a machine says.
-use Rattle.std.specs.Prelude.{◌≡◌, ⊤, ℕ, Bool, true, List, [], ◌∷◌, Option, Some, IsSome, Ok, slice_get, unwrap_or}
+use Rattle.std.specs.Prelude.{◌≡◌, ⊤, ℕ, Bool, true, List, [], ◌∷◌, Option, Some, IsSome, Ok, map, slice_get, unwrap_or}
 use Rattle.std.specs.Io.KnownBytes.{Appends}
 use Rattle.elf_image.specs.Image.{ImageContent}
 use Rattle.elf_image.specs.Start.{Start, start_of}
@@ -8,6 +8,7 @@ use Rattle.flat_machine.specs.declared.end.End.TheVariants.{Killed}
 use Rattle.flat_machine.specs.declared.end.KillCause.TheVariants.{Limit}
 use Rattle.guest_frames.specs.FrameRuns.{PlaysProcess}
 use Rattle.guest_io.specs.GuestStatus.{guest_status}
+use Rattle.guest_words.specs.Given.{GivesWithWords}
 use Rattle.image_files.specs.WholeBytes.{AreWhole}
 use Rattle.hart_carriers.specs.Ending.{IsReportOf}
 use Rattle.hart_carriers.specs.declared.crew.CrewRequest.{CrewRequest}
@@ -29,8 +30,8 @@ use Rattle.run_recorder.specs.declared.request.Driver.{Driver}
 use Rattle.run_recorder.specs.declared.request.Driver.TheVariants.{Serial, Workers}
 use Rattle.run_recorder.specs.declared.request.RecordRequest.{RecordRequest}
 
--- a machine of so many frames, on so many slots in memory, ran one process by such a crew; its audit found nothing amiss, and this is what it
--- told of the process
+-- A machine of so many frames, on so many slots in memory, ran one process by such a crew. Its audit found nothing amiss. This is what it
+-- reported of the process.
 pub record RanOnThreads (frames slots : ℕ) (start : Start) (wanted : CrewRequest) (report : ProcessReport) : Type 0 where
   pub run : RunReport
   pub is_report : IsReportOf (List ℕ) ⊤ frames slots (start ∷ []) wanted run
@@ -64,13 +65,13 @@ pub record ReplaysTo (start : Start) (report : ProcessReport) (record_told : Rec
   pub accepted : (fault : ReplayFault) (after : Process) → StopsReplay fault record_told (opening start.image start.input) after → fault ≡ NoMemory
   pub only : (after : Process) → Replays record_told (opening start.image start.input) after → after ≡ flat
 
--- The image file and the input were read whole; a machine ran that program as it was asked for, which told what a flat run of these turns comes
--- to; and the file was made of the record. `takes` tells, of a name, of which bytes a file of it was made.
+-- The image file, with the guest's words, and the input were read whole. A machine ran that program as requested, and reported what a flat
+-- run of these turns comes to. The file was made of the record. `takes` relates a name to the bytes of which a file of this name was made.
 pub record Saves (gives takes : List ℕ → List ℕ → Type 0) (request : RecordRequest) (remaining : Option (List ℕ)) (report : ProcessReport) (told_as : RecordValue) : Type 0 where
   pub file : List ℕ
   pub image : ImageContent
   pub input : List ℕ
-  pub given : gives request.image.now file
+  pub given : GivesWithWords gives (map (λ s. s.now) request.argv.items) request.image.now file
   pub holds : HoldsImage file image
   pub whole : AreWhole remaining input
   pub ran : RanBy request.driver request (start_of image input) report

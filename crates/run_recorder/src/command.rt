@@ -16,6 +16,7 @@ use crate::told::record_of;
 use elf_image::Image;
 use guest_frames::play_process;
 use guest_io::{WholeFiles, read_whole, status_of, tell_end};
+use guest_words::read_with_words;
 use hart_carriers::CrewRequest;
 use image_files::{Folder, image_in};
 use machine_sides::ProcessReport;
@@ -47,7 +48,7 @@ where
     ensures kept { IfErr result (IsKept R.gives R.takes request.now (I.remaining input)) }
 {
     let alloc = rt.alloc();
-    let file = rt.read(request.image)?;
+    let file = read_with_words(rt, request.image, request.argv.as_slice())?;
     let image_print = take_fingerprint(file.as_slice());
     let image = image_in(alloc, file, request.image)?;
     let input = read_whole(alloc, input)?;

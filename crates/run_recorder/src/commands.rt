@@ -2,6 +2,7 @@
 
 use clap::{Arg, Command};
 use guest_io::{flag_arg, option_arg, with_arg, with_command};
+use guest_words::words_arg;
 use std::alloc::{AllocError, Global};
 
 /// The program, of which this is one command.
@@ -19,5 +20,6 @@ fn record<'a>(alloc: Global) -> Result<Command<'a>, AllocError> {
     let command = with_arg(command, flag_arg(alloc, "ahead"));
     let command = with_arg(command, flag_arg(alloc, "serial"));
     let command = with_arg(command, Arg::new(alloc, "record").short('o').required(true));
-    with_arg(command, Arg::new(alloc, "image").required(true))
+    let command = with_arg(command, Arg::new(alloc, "image").required(true));
+    with_arg(command, words_arg(alloc))
 }

@@ -1,6 +1,7 @@
 //! Why a run is not recorded.
 
 use guest_io::UsageFault;
+use guest_words::WordsFault;
 use image_files::Fault;
 use std::alloc::AllocError;
 use thiserror::Error;
@@ -13,6 +14,9 @@ pub enum RecorderFault<'a> {
     /// Words that are no request, or options of the other way to run.
     #[error("{0}")]
     Usage(UsageFault<'a>),
+    /// Words that the image does not take, or a fault of its file.
+    #[error("{0}")]
+    Words(WordsFault<'a>),
     /// The machine's audit found something amiss, so that its run is no flat run.
     #[error("the audit of the machine found a fault: the run is not recorded")]
     NotSound,
@@ -31,6 +35,17 @@ impl<'a> From<Fault<'a>> for RecorderFault<'a> {
 
     fn from(fault: Fault<'a>) -> Self {
         RecorderFault::Fault(fault)
+    }
+}
+
+impl<'a> From<WordsFault<'a>> for RecorderFault<'a> {
+    ghost use Rattle.std.specs.Prelude.{◌≡◌};
+    ghost use Rattle.run_recorder.specs.declared.fault.RecorderFault.TheVariants as fault;
+
+    ghost from_gives = { λ why made. made ≡ fault.Words why };
+
+    fn from(fault: WordsFault<'a>) -> Self {
+        RecorderFault::Words(fault)
     }
 }
 

@@ -9,8 +9,8 @@ ghost use Rattle.machine_sides.specs.declared.report.ProcessReport.{ProcessRepor
 ghost use Rattle.run_records.specs.Records.{RecordValue};
 ghost use Rattle.run_recorder.specs.Recorded.{ReplaysTo, TellsReport};
 
-/// The record of a run whose report stands for a flat run is read again and replays: to the output, the ending and as many steps as were reported. Only
-/// for want of memory can a replay be refused.
+/// If the report of a run represents a flat run, its record is read back and replays: to the output, ending and number of steps that were
+/// reported. A replay can be refused only if there is not enough memory.
 pub fn recorded_is_replayed()
     ensures { (start : Start) (file input : List ℕ) (report : ProcessReport) (record_told :
         RecordValue) → StandsForRun start (told report) →

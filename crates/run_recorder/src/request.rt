@@ -1,7 +1,7 @@
 //! What is asked for.
 
 /// Run a program on a machine, and write a record of the run.
-#[derive(Clone, Copy, Debug)]
+#[derive(Debug, Drop)]
 pub struct RecordRequest<'a> {
     /// How many frames the machine has, 4 to 4096.
     pub frames: u32,
@@ -13,6 +13,8 @@ pub struct RecordRequest<'a> {
     /// The file to which the record is written.
     pub record: &'a str,
     pub image: &'a str,
+    /// The words that it is given, if any: its name, and more.
+    pub argv: Vec<&'a str>,
 }
 
 /// What runs the machine.

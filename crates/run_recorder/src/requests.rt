@@ -8,6 +8,7 @@ use crate::fault::RecorderFault;
 use crate::request::{Driver, RecordRequest};
 use clap::ArgMatches;
 use guest_io::{UsageFault, is_given, number, text, wrong_words};
+use guest_words::argv_of;
 use std::alloc::Global;
 use std::convert::AsStr;
 
@@ -38,24 +39,29 @@ pub fn read_request<'a, S: AsStr>(
 {
     match guest(alloc)?.try_get_matches_from(words) {
         Ok(matches) => match matches.subcommand() {
-            Some((_, matches)) => request_of(matches),
-            None => request_of(&matches),
+            Some((_, matches)) => request_of(alloc, matches),
+            None => request_of(alloc, &matches),
         },
         Err(error) => Err(RecorderFault::Usage(wrong_words(alloc, &error))),
     }
 }
 
 /// The request of words that are those of the command.
-fn request_of<'a>(matches: &ArgMatches<'a>) -> Result<RecordRequest<'a>, RecorderFault<'a>>
+fn request_of<'a>(
+    alloc: Global,
+    matches: &ArgMatches<'a>,
+) -> Result<RecordRequest<'a>, RecorderFault<'a>>
     ensures in_range { IfOk result IsInRange }
 {
+    let image = text(matches, "image");
     Ok(RecordRequest {
         frames: number(matches, "frames", 4, 4096)?.unwrap_or(USUAL_FRAMES),
         slots: number(matches, "slots", 0, MOST_SLOTS)?.unwrap_or(USUAL_SLOTS),
         slice: number(matches, "slice", 1, LONGEST_SLICE)?.unwrap_or(USUAL_SLICE),
         driver: driver(matches)?,
         record: text(matches, "record"),
-        image: text(matches, "image"),
+        image,
+        argv: argv_of(alloc, matches, image)?,
     })
 }
 

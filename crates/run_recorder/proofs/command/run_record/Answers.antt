@@ -13,21 +13,21 @@ returns-clause-recorded g c =
       file = c.in_ok-file.file.items;
       image = c.in_ok-image.image;
       input = c.in_ok-input.input.items;
-      given = c.in_ok-file.ensures.bytes;
+      given = rw (← c.as_slice.ensures.value) c.in_ok-file.ensures.given;
       holds = c.in_ok-image.ensures.image;
       whole = c.in_ok-input.ensures.whole;
       ran = c.in_ok-report.ensures.ran;
       flat = c.in_ok-report.ensures.flat;
       tells = c.in_ok-told.ensures.tells c.in_ok-file.file.items c.in_ok-input.input.items
-          (c.take_fingerprint-image_print.ensures ∙ ap print_of c.as_slice.ensures.value)
-          (c.take_fingerprint-input_print.ensures ∙ ap print_of c.as_slice-2.ensures.value);
+          (c.take_fingerprint-image_print.ensures ∙ ap print_of c.as_slice-2.ensures.value)
+          (c.take_fingerprint-input_print.ensures ∙ ap print_of c.as_slice-3.ensures.value);
       saved = c.in_ok-bytes.ensures.saved;
     } in
     record {
       report = report;
       told_as = value_of c.in_ok-told.told;
       saves = saves;
-      written = subst (Appends (g.O.Write.contents c.args.out.now) (g.O.Write.contents c.write_output-written.new.out)) (c.as_slice-3.ensures.value ∙ ap (λ v. v.items) c.in_ok-told.ensures.output) c.in-Ok.ensures;
+      written = subst (Appends (g.O.Write.contents c.args.out.now) (g.O.Write.contents c.write_output-written.new.out)) (c.as_slice-4.ensures.value ∙ ap (λ v. v.items) c.in_ok-told.ensures.output) c.in-Ok.ensures;
       status_is = c.status_of.ensures;
     }
 
@@ -38,14 +38,14 @@ returns-in_default-clause-kept g c =
       file = c.in_ok-file.file.items;
       image = c.in_ok-image.image;
       input = c.in_ok-input.input.items;
-      given = c.in_ok-file.ensures.bytes;
+      given = rw (← c.as_slice.ensures.value) c.in_ok-file.ensures.given;
       holds = c.in_ok-image.ensures.image;
       whole = c.in_ok-input.ensures.whole;
       ran = c.in_ok-report.ensures.ran;
       flat = c.in_ok-report.ensures.flat;
       tells = c.in_ok-told.ensures.tells c.in_ok-file.file.items c.in_ok-input.input.items
-          (c.take_fingerprint-image_print.ensures ∙ ap print_of c.as_slice.ensures.value)
-          (c.take_fingerprint-input_print.ensures ∙ ap print_of c.as_slice-2.ensures.value);
+          (c.take_fingerprint-image_print.ensures ∙ ap print_of c.as_slice-2.ensures.value)
+          (c.take_fingerprint-input_print.ensures ∙ ap print_of c.as_slice-3.ensures.value);
       saved = c.in_ok-bytes.ensures.saved;
     } in
     (refl, (report, (value_of c.in_ok-told.told, saves)))

@@ -1,0 +1,4 @@
+pub mod FilledFiles
+pub mod NameLaws
+pub mod ObjectLaws
+pub mod WordLaws

@@ -8,6 +8,7 @@ import sys
 from collections.abc import Callable, Sequence
 from typing import Any, NoReturn
 
+TOP = os.path.dirname(os.path.dirname(os.path.dirname(os.path.realpath(__file__))))
 FAULT = 2
 STOPPED = 130
 
@@ -73,8 +74,15 @@ def leave_output() -> None:
     os.dup2(os.open(os.devnull, os.O_WRONLY), 1)
 
 
+def tell_version() -> None:
+    """Answers --version with the script's name and the version and commit of the sources, and ends the script."""
+    if sys.argv[1:] == ["--version"]:
+        os.execv(f"{TOP}/build/version", ["version", os.path.basename(sys.argv[0])])
+
+
 def end(name: str, main: Callable[[list[str]], int | None], faults: tuple[type[Exception], ...] = ()) -> NoReturn:
     """Runs a script, and ends it by its status. A fault, as of a file, is one line. A reader of the output that has enough is no fault."""
+    tell_version()
     try:
         status = main(sys.argv[1:]) or 0
         sys.stdout.flush()

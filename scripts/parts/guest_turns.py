@@ -2,6 +2,7 @@
 import array
 import bisect
 import contextlib
+import os
 import signal
 import subprocess
 import tempfile
@@ -113,7 +114,8 @@ class Driven:
         self.complaints = tempfile.TemporaryFile()
         before = signal.signal(signal.SIGINT, signal.SIG_IGN)    # Ctrl-C is ours
         try:
-            self.run = subprocess.Popen(words, stdin=subprocess.PIPE, stdout=subprocess.PIPE, stderr=self.complaints, text=True)
+            env = os.environ | {"PAGED_EXPLAIN": "never"}    # the process that is started is the program then
+            self.run = subprocess.Popen(words, stdin=subprocess.PIPE, stdout=subprocess.PIPE, stderr=self.complaints, text=True, env=env)
         finally:
             signal.signal(signal.SIGINT, before)
         assert self.run.stdin and self.run.stdout    # both are pipes
